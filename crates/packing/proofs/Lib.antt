@@ -1,0 +1,4 @@
+pub mod UnpackSteps
+pub mod Until
+pub mod Runs
+pub mod PackSteps

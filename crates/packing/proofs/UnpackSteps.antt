@@ -1,0 +1,235 @@
+-- Unpacking: what stands at a place of packed data, the search for a bad code, and the loop.
+use Prim.Native.Nat.{ℕ, _+_, _-_, _≤_, _<_}
+use native.Mathlib.Nat.{add-zero}
+use native.Mathlib.Omega.{arith}
+use mathlib.Core.Path.{_≡_, refl, sym, ap, _∙_}
+use mathlib.Core.Bool.{Bool, true, false}
+use mathlib.Core.List.{List, [], _∷_, _++_, append-assoc, append-nil}
+use lib.ListN.{length, getD, take, drop, replicate, length-append, length-drop, length-replicate, drop-of-length-le, List·getD-eq-default}
+use lib.Seq.{getD-drop, drop-drop, take-all, length-take-le}
+use lib.Dec.{eqb}
+use borrow.Author.Tests.{ne-eqb, eq-eqb}
+use borrow.Rule.Slice.PartMut.{putMid, midOf}
+use Rattle.slices.specs.Choose.{choose, both}
+use Rattle.slices.proofs.Fills.{put-run, cleared-whole}
+use Rattle.packing.specs.Packed.{Found, malformed, bytes, before, pair, run, unpacked}
+use Rattle.packing.specs.Packed.Steps.{front-plain, front-cut, front-run, unpacked-nil}
+use Rattle.packing.specs.Unpacking.{answerOf, leftBy, Unpacks}
+use Rattle.packing.specs.Inner.{over, Into, Put}
+use Rattle.packing.specs.declared.Unpacked.{Unpacked}
+use Rattle.packing.specs.declared.Unpacked.the-variants.{Good, WrongLength, Malformed}
+
+-- the test for ED ED
+pub pair-first : (a b : ℕ) → a ≡ 237 → eqb b 237 ≡ pair a b
+pair-first a b h = simp (eq-eqb a 237 h)
+
+pub pair-none : (a b : ℕ) → (a ≡ 237 → ⊥) → false ≡ pair a b
+pair-none a b h = simp (ne-eqb a 237 h)
+
+pub pair-end : (s : List ℕ) (i : ℕ) → length s ≤ i + 1 → false ≡ pair (getD s i 0) (getD s (i + 1) 0)
+pair-end s i h = rw (List·getD-eq-default s 0 {n = i + 1} h) (go (eqb (getD s i 0) 237))
+  where
+    go : (t : Bool) → false ≡ both t false
+    go true = refl
+    go false = refl
+
+module _ (s : List ℕ) (i : ℕ) (r : Bool) (e : r ≡ pair (getD s i 0) (getD s (i + 1) 0)) where
+  there : pair (getD (drop i s) 0 0) (getD (drop i s) 1 0) ≡ r
+  there = rw (getD-drop i s 0 0, getD-drop i s 1 0, add-zero i) (sym e)
+
+  pub step-plain : i < length s → r ≡ false → unpacked (drop i s) ≡ before (getD s i 0 ∷ []) (unpacked (drop (i + 1) s))
+  step-plain h f =
+      let l : 0 < length (drop i s) = simp length-drop (omega arith) in
+      rw (getD-drop i s 0 0, drop-drop 1 i s, add-zero i) at (front-plain (drop i s) l (there ∙ f))
+
+  pub step-cut : length s < i + 4 → r ≡ true → unpacked (drop i s) ≡ malformed
+  step-cut h t =
+      let l : length (drop i s) < 4 = simp length-drop (omega arith) in
+      front-cut (drop i s) l (there ∙ t)
+
+  pub step-run : i + 4 ≤ length s → r ≡ true → unpacked (drop i s) ≡ run (getD s (i + 2) 0) (getD s (i + 3) 0) (unpacked (drop (i + 4) s))
+  step-run h t =
+      let l : 4 ≤ length (drop i s) = simp length-drop (omega arith) in
+      rw (getD-drop i s 2 0, getD-drop i s 3 0, drop-drop 4 i s) at (front-run (drop i s) l (there ∙ t))
+
+pub step-end : (s : List ℕ) (i : ℕ) → length s ≤ i → unpacked (drop i s) ≡ bytes []
+step-end s i h = ap unpacked (drop-of-length-le s {i = i} h) ∙ unpacked-nil
+
+over-before : (xs : List ℕ) (u : Found) → over (before xs u) ≡ over u
+over-before xs malformed = refl
+over-before xs (bytes ys) = refl
+
+-- the search for a malformed code has come from `from` to i
+pub record Resting (s : List ℕ) (from i : ℕ) : Type 0 where
+  pub reach : i ≤ length s
+  pub same : over (unpacked (drop from s)) ≡ over (unpacked (drop i s))
+
+pub resting-none : (s : List ℕ) (from : ℕ) → from ≤ length s → Resting s from from
+resting-none s from h = record { reach = h; same = refl }
+
+module _ (s : List ℕ) (from i : ℕ) (r : Bool) (g : Resting s from i) (e : r ≡ pair (getD s i 0) (getD s (i + 1) 0)) where
+  pub resting-plain : i < length s → r ≡ false → Resting s from (i + 1)
+  resting-plain h f =
+      record {
+        reach = omega arith;
+        same = g .same ∙ ap over (step-plain s i r e h f) ∙ over-before (getD s i 0 ∷ []) (unpacked (drop (i + 1) s));
+      }
+
+  pub resting-run : i + 4 ≤ length s → r ≡ true → (getD s (i + 2) 0 ≡ 0 → ⊥) → Resting s from (i + 4)
+  resting-run h t z =
+      record {
+        reach = h;
+        same =
+            g .same ∙ ap over (step-run s i r e h t)
+            ∙ rw (ne-eqb (getD s (i + 2) 0) 0 z) (over-before (replicate (getD s (i + 2) 0) (getD s (i + 3) 0)) (unpacked (drop (i + 4) s)));
+      }
+
+  pub resting-cut : length s < i + 4 → r ≡ true → Malformed ≡ over (unpacked (drop from s))
+  resting-cut h t = sym (g .same ∙ ap over (step-cut s i r e h t))
+
+  pub resting-zero : i + 4 ≤ length s → r ≡ true → getD s (i + 2) 0 ≡ 0 → Malformed ≡ over (unpacked (drop from s))
+  resting-zero h t z = sym (g .same ∙ ap over (step-run s i r e h t) ∙ rw (eq-eqb (getD s (i + 2) 0) 0 z))
+
+pub resting-end : (s : List ℕ) (from i : ℕ) → Resting s from i → length s ≤ i → WrongLength ≡ over (unpacked (drop from s))
+resting-end s from i g h = sym (g .same ∙ ap over (step-end s i h))
+
+pub before-nil : (u : Found) → before [] u ≡ u
+before-nil malformed = refl
+before-nil (bytes ys) = refl
+
+pub before-before : (xs ys : List ℕ) (u : Found) → before xs (before ys u) ≡ before (xs ++ ys) u
+before-before xs ys malformed = refl
+before-before xs ys (bytes zs) = ap bytes (sym (append-assoc xs ys zs))
+
+-- the loop: i bytes of s are read, and what they stand for is in d up to o
+pub record Going (s d₀ d : List ℕ) (i o : ℕ) : Type 0 where
+  pub reach : i ≤ length s
+  pub room : o ≤ length d
+  pub long : length d ≡ length d₀
+  pub same : unpacked s ≡ before (take o d) (unpacked (drop i s))
+
+pub going-none : (s d : List ℕ) → Going s d d 0 0
+going-none s d = record { reach = omega arith; room = omega arith; long = refl; same = sym (before-nil (unpacked s)) }
+
+not-good : (r : Unpacked) → r ≡ Malformed → r ≡ Good → ⊥
+not-good r p q = let z : _≡_ {A = ℕ} 0 1 = cc in omega arith
+
+over-not-good : (u : Found) → over u ≡ Good → ⊥
+over-not-good malformed q = let z : _≡_ {A = ℕ} 0 1 = cc in omega arith
+over-not-good (bytes xs) q = let z : _≡_ {A = ℕ} 0 1 = cc in omega arith
+
+full : (xs ys : List ℕ) (w : Found) (n : ℕ) → n < length xs + length ys → over (before ys w) ≡ answerOf (before xs (before ys w)) n
+full xs ys malformed n h = refl
+full xs ys (bytes zs) n h =
+    let l : length (xs ++ (ys ++ zs)) ≡ length xs + (length ys + length zs) = length-append xs (ys ++ zs) ∙ ap (λ (m : ℕ). length xs + m) (length-append ys zs) in
+    simp (ne-eqb (length (xs ++ (ys ++ zs))) n (λ e. omega arith))
+
+module _ (s d₀ d : List ℕ) (i o : ℕ) (g : Going s d₀ d i o) where
+  -- the output is full, and what is at i stands for ys and more
+  over-into : (r : Unpacked) (ys : List ℕ) (w : Found) → r ≡ over (unpacked (drop i s)) → unpacked (drop i s) ≡ before ys w → length d < o + length ys
+      → Into (unpacked s) d₀ r d
+  over-into r ys w er eu h =
+      let l : length (take o d) ≡ o = length-take-le o d (g .room) in
+      record {
+        answer =
+            er ∙ ap over eu ∙ full (take o d) ys w (length d₀) (omega (arith, g .long))
+            ∙ ap (λ (u : Found). answerOf u (length d₀)) (sym (g .same ∙ ap (before (take o d)) eu));
+        found = λ q. absurd (over-not-good (unpacked (drop i s)) (sym er ∙ q));
+      }
+
+  bad-into : unpacked (drop i s) ≡ malformed → Into (unpacked s) d₀ Malformed d
+  bad-into e =
+      record {
+        answer = ap (λ (u : Found). answerOf u (length d₀)) (sym (g .same ∙ ap (before (take o d)) e));
+        found = λ q. absurd (not-good Malformed refl q);
+      }
+
+  module _ (r : Bool) (e : r ≡ pair (getD s i 0) (getD s (i + 1) 0)) where
+    pub going-plain : (d′ : List ℕ) → Put d o (getD s i 0 ∷ []) d′ → i < length s → r ≡ false → o < length d → Going s d₀ d′ (i + 1) (o + 1)
+    going-plain d′ p h f k =
+        record {
+          reach = omega arith;
+          room = omega (arith, p .long);
+          long = p .long ∙ g .long;
+          same =
+              g .same ∙ ap (before (take o d)) (step-plain s i r e h f) ∙ before-before (take o d) (getD s i 0 ∷ []) (unpacked (drop (i + 1) s))
+              ∙ ap (λ (z : List ℕ). before z (unpacked (drop (i + 1) s))) (sym (p .wrote));
+        }
+
+    pub full-plain : (a : Unpacked) → i < length s → r ≡ false → length d ≤ o → a ≡ over (unpacked (drop i s)) → Into (unpacked s) d₀ a d
+    full-plain a h f k p = over-into a (getD s i 0 ∷ []) (unpacked (drop (i + 1) s)) p (step-plain s i r e h f) (omega arith)
+
+    pub cut-into : length s < i + 4 → r ≡ true → Into (unpacked s) d₀ Malformed d
+    cut-into h t = bad-into (step-cut s i r e h t)
+
+    module _ (n : ℕ) (h : i + 4 ≤ length s) (t : r ≡ true) (en : n ≡ getD s (i + 2) 0) where
+      stands : (n ≡ 0 → ⊥) → unpacked (drop i s) ≡ before (replicate n (getD s (i + 3) 0)) (unpacked (drop (i + 4) s))
+      stands z =
+          step-run s i r e h t ∙ ap (λ (m : ℕ). run m (getD s (i + 3) 0) (unpacked (drop (i + 4) s))) (sym en) ∙ rw (ne-eqb n 0 z)
+
+      pub zero-into : n ≡ 0 → Into (unpacked s) d₀ Malformed d
+      zero-into z = bad-into (step-run s i r e h t ∙ rw (eq-eqb (getD s (i + 2) 0) 0 (sym en ∙ z)))
+
+      pub full-run : (a : Unpacked) → (n ≡ 0 → ⊥) → length d < o + n → a ≡ over (unpacked (drop i s)) → Into (unpacked s) d₀ a d
+      full-run a z k p =
+          over-into a (replicate n (getD s (i + 3) 0)) (unpacked (drop (i + 4) s)) p (stands z) (omega (arith, length-replicate n (getD s (i + 3) 0)))
+
+      pub going-run : (l : List ℕ) → (n ≡ 0 → ⊥) → o + n ≤ length d → l ≡ replicate (length (midOf o (o + n - o) d)) (getD s (i + 3) 0)
+          → Going s d₀ (putMid o (o + n - o) d l) (i + 4) (o + n)
+      going-run l z k p =
+          let w = put-run d l o n (getD s (i + 3) 0) k p in
+          record {
+            reach = h;
+            room = omega (arith, w .0);
+            long = w .0 ∙ g .long;
+            same =
+                g .same ∙ ap (before (take o d)) (stands z) ∙ before-before (take o d) (replicate n (getD s (i + 3) 0)) (unpacked (drop (i + 4) s))
+                ∙ ap (λ (z : List ℕ). before z (unpacked (drop (i + 4) s))) (sym (w .1));
+          }
+
+  -- all is read
+  whole : length s ≤ i → unpacked s ≡ bytes (take o d)
+  whole h = g .same ∙ ap (before (take o d)) (step-end s i h) ∙ ap bytes (append-nil (take o d))
+
+  pub good-into : length s ≤ i → o ≡ length d → Into (unpacked s) d₀ Good d
+  good-into h e =
+      let l : length (take o d) ≡ o = length-take-le o d (g .room) in
+      let q : eqb (length (take o d)) (length d₀) ≡ true = eq-eqb (length (take o d)) (length d₀) (omega (arith, g .long)) in
+      record {
+        answer = rw (whole h, q);
+        found = λ _. rw (whole h, q) (take-all o d (omega arith));
+      }
+
+  pub wrong-into : length s ≤ i → (o ≡ length d → ⊥) → Into (unpacked s) d₀ WrongLength d
+  wrong-into h e =
+      let l : length (take o d) ≡ o = length-take-le o d (g .room) in
+      let q : eqb (length (take o d)) (length d₀) ≡ false = ne-eqb (length (take o d)) (length d₀) (λ z. e (omega (arith, g .long))) in
+      record {
+        answer = rw (whole h, q);
+        found = λ p. absurd (over-not-good (bytes []) p);
+      }
+
+left-refused : (u : Found) (n : ℕ) → (answerOf u n ≡ Good → ⊥) → replicate n 0 ≡ leftBy u n
+left-refused malformed n h = refl
+left-refused (bytes xs) n h = go (eqb (length xs) n) h
+  where
+    go : (t : Bool) → (choose t Good WrongLength ≡ Good → ⊥) → replicate n 0 ≡ choose t xs (replicate n 0)
+    go true h = absurd (h refl)
+    go false h = refl
+
+module _ (u : Found) (d₀ : List ℕ) (r : Unpacked) (d : List ℕ) (g : Into u d₀ r d) where
+  pub into-good : r ≡ Good → Unpacks u (length d₀) Good d
+  into-good e = record { answer = sym e ∙ g .answer; memory = sym (g .found e) }
+
+  refused : (a : Unpacked) (l : List ℕ) → r ≡ a → (a ≡ Good → ⊥) → length d ≡ length d₀ → l ≡ take 0 d ++ replicate (length d - 0) 0 → Unpacks u (length d₀) r l
+  refused a l p h k e =
+      record {
+        answer = g .answer;
+        memory = cleared-whole d l e ∙ ap (λ (n : ℕ). replicate n 0) k ∙ left-refused u (length d₀) (λ q. h (sym p ∙ g .answer ∙ q));
+      }
+
+  pub into-wrong : (l : List ℕ) → r ≡ WrongLength → length d ≡ length d₀ → l ≡ take 0 d ++ replicate (length d - 0) 0 → Unpacks u (length d₀) r l
+  into-wrong l p k e = refused WrongLength l p (over-not-good (bytes [])) k e
+
+  pub into-malformed : (l : List ℕ) → r ≡ Malformed → length d ≡ length d₀ → l ≡ take 0 d ++ replicate (length d - 0) 0 → Unpacks u (length d₀) r l
+  into-malformed l p k e = refused Malformed l p (over-not-good malformed) k e

@@ -1,0 +1,4 @@
+pub mod Packed
+pub mod Unpacking
+pub mod Packing
+pub mod Inner

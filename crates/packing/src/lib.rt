@@ -1,0 +1,330 @@
+// The run-length code of .Z80 files, over any bytes: document 01, "Packed data". It knows nothing of a Spectrum.
+// What stands above relies on specs/Unpacking, specs/Packing and the laws of specs/Packed/Promise.
+ghost use Prim.Native.Nat.{ℕ, _+_, _≤_, _<_};
+ghost use mathlib.Core.Path.{_≡_};
+ghost use mathlib.Core.List.{_∷_, []};
+ghost use mathlib.Core.Bool.{true};
+ghost use lib.ListN.{length, getD, drop, replicate};
+ghost use Rattle.packing.specs.Packed.{pair, unpacked, packed};
+ghost use Rattle.packing.specs.Unpacking.{Unpacks};
+ghost use Rattle.packing.specs.Packing.{Packs};
+ghost use Rattle.packing.specs.Inner.{over, Into, Until, Moved, runAt, RunLeft, Put, PackedInto};
+
+// The answer of unpacking.
+pub enum Unpacked {
+    Good,
+    WrongLength,
+    Malformed,
+}
+
+// The answer of packing.
+pub enum Fit {
+    Length(usize),
+    TooShort,
+}
+
+// src unpacked into dst, which is all zero unless the answer is Good.
+pub fn unpack(src: &[u8], dst: &mut [u8]) -> Unpacked
+    ensures { λ r. ⌜ Unpacks (unpacked (now (src .entry))) (length (now (dst .entry))) r (now (dst .exit)) ⌝ }
+{
+    let r = unpack_into(src, dst);
+    match r {
+        Unpacked::Good => return Unpacked::Good,
+        Unpacked::WrongLength => slices::clear_from(dst, 0),
+        Unpacked::Malformed => slices::clear_from(dst, 0),
+    }
+    r
+}
+
+// The loop: plain bytes in one go, then a code. Where the answer is Good, dst holds what src stands for.
+fn unpack_into(src: &[u8], dst: &mut [u8]) -> Unpacked
+    ensures { λ r. ⌜ Into (unpacked (now (src .entry))) (now (dst .entry)) r (now (dst .exit)) ⌝ }
+{
+    let mut i: usize = 0;
+    let mut o: usize = 0;
+    while i < src.len() {
+        let k = plain_part(src, i, dst, o);
+        let p = i + k;
+        let q = o + k;
+        if p == src.len() {
+            if q == dst.len() {
+                return Unpacked::Good;
+            }
+            return Unpacked::WrongLength;
+        }
+        if pair_at(src, p) {
+            if src.len() < p + 4 {
+                return Unpacked::Malformed;
+            }
+            let n = slices::wide(src[p + 2]);
+            let y = src[p + 3];
+            if n == 0 {
+                return Unpacked::Malformed;
+            }
+            let e = q + n;
+            if dst.len() < e {
+                return rest(src, p);
+            }
+            slices::fill(&mut dst[q..e], y);
+            o = e;
+            i = p + 4;
+        } else {
+            if dst.len() <= q {
+                return rest(src, p);
+            }
+            put_one(dst, q, src[p]);
+            o = q + 1;
+            i = p + 1;
+        }
+    }
+    if o == dst.len() {
+        return Unpacked::Good;
+    }
+    Unpacked::WrongLength
+}
+
+// The answer where dst is full and the bytes from `from` on are left: a bad code among them still decides.
+fn rest(src: &[u8], from: usize) -> Unpacked
+    requires { ⌜ from ≤ length (now src) ⌝ }
+    ensures { λ r. ⌜ r ≡ over (unpacked (drop from (now (src .entry)))) ⌝ }
+{
+    let mut i = from;
+    while i < src.len() {
+        if pair_at(src, i) {
+            if src.len() < i + 4 {
+                return Unpacked::Malformed;
+            }
+            if src[i + 2] == 0 {
+                return Unpacked::Malformed;
+            }
+            i += 4;
+        } else {
+            i += 1;
+        }
+    }
+    Unpacked::WrongLength
+}
+
+// The bytes of src from i on, up to an ED or until either slice ends, stored into dst from o on; how many.
+fn plain_part(src: &[u8], i: usize, dst: &mut [u8], o: usize) -> usize
+    requires { ⌜ (i ≤ length (now src)) × (o ≤ length (now dst)) ⌝ }
+    ensures { λ r. ⌜ Moved (now (src .entry)) i (now (dst .entry)) o r (now (dst .exit)) ⌝ }
+{
+    let m = slices::least(src.len() - i, dst.len() - o);
+    let e = i + m;
+    let f = o + m;
+    until_ed(&src[i..e], &mut dst[o..f])
+}
+
+// The bytes of s before its first ED, stored into d, which is at least as long; how many.
+fn until_ed(s: &[u8], d: &mut [u8]) -> usize
+    requires { ⌜ length (now s) ≤ length (now d) ⌝ }
+    ensures { λ r. ⌜ Until (now (s .entry)) (now (d .entry)) (now (d .exit)) r ⌝ }
+{
+    let mut k: usize = 0;
+    while k < s.len() {
+        let x = s[k];
+        if x == 237 {
+            return k;
+        }
+        d[k] = x;
+        k += 1;
+    }
+    k
+}
+
+// Whether ED ED stands at i.
+fn pair_at(src: &[u8], i: usize) -> bool
+    requires { ⌜ i < length (now src) ⌝ }
+    ensures { λ r. ⌜ r ≡ pair (getD (now (src .entry)) i 0) (getD (now (src .entry)) (i + 1) 0) ⌝ }
+{
+    if src[i] == 237 {
+        if i + 1 < src.len() {
+            return src[i + 1] == 237;
+        }
+    }
+    false
+}
+
+// src packed into dst, with zeros after it; all zero where dst is too short.
+pub fn pack(src: &[u8], dst: &mut [u8]) -> Fit
+    ensures { λ r. ⌜ Packs (packed (now (src .entry))) (length (now (dst .entry))) r (now (dst .exit)) ⌝ }
+{
+    let r = pack_into(src, dst);
+    match r {
+        Fit::Length(n) => {
+            slices::clear_from(dst, n);
+            return Fit::Length(n);
+        }
+        Fit::TooShort => {
+            slices::clear_from(dst, 0);
+            return Fit::TooShort;
+        }
+    }
+}
+
+// The loop: where the answer is a length, dst begins with src packed.
+fn pack_into(src: &[u8], dst: &mut [u8]) -> Fit
+    ensures { λ r. ⌜ PackedInto (now (src .entry)) (now (dst .entry)) r (now (dst .exit)) ⌝ }
+{
+    let mut i: usize = 0;
+    let mut o: usize = 0;
+    while i < src.len() {
+        let v = src[i];
+        if v == 237 {
+            let n = run_at(src, i);
+            if 2 <= n {
+                if dst.len() < o + 4 {
+                    return Fit::TooShort;
+                }
+                put_run(dst, o, n, v);
+                o += 4;
+                i += n;
+            } else if i + 1 < src.len() {
+                if dst.len() < o + 2 {
+                    return Fit::TooShort;
+                }
+                put_two(dst, o, v, src[i + 1]);
+                o += 2;
+                i += 2;
+            } else {
+                if dst.len() <= o {
+                    return Fit::TooShort;
+                }
+                put_one(dst, o, v);
+                o += 1;
+                i += 1;
+            }
+        } else if unlike_next(src, i) {
+            if dst.len() <= o {
+                return Fit::TooShort;
+            }
+            put_one(dst, o, v);
+            o += 1;
+            i += 1;
+        } else {
+            let n = run_at(src, i);
+            if 5 <= n {
+                if dst.len() < o + 4 {
+                    return Fit::TooShort;
+                }
+                put_run(dst, o, n, v);
+                o += 4;
+                i += n;
+            } else {
+                let e = o + n;
+                if dst.len() < e {
+                    return Fit::TooShort;
+                }
+                put_short(dst, o, n, v);
+                o = e;
+                i += n;
+            }
+        }
+    }
+    Fit::Length(o)
+}
+
+// The length of src packed.
+pub fn packed_len(src: &[u8]) -> usize
+    ensures { λ r. ⌜ r ≡ length (packed (now (src .entry))) ⌝ }
+{
+    let mut i: usize = 0;
+    let mut len: usize = 0;
+    while i < src.len() {
+        let n = run_at(src, i);
+        if src[i] == 237 {
+            if 2 <= n {
+                len += 4;
+                i += n;
+            } else if src.len() <= i + 1 {
+                len += 1;
+                i += 1;
+            } else {
+                len += 2;
+                i += 2;
+            }
+        } else if 5 <= n {
+            len += 4;
+            i += n;
+        } else {
+            len += n;
+            i += n;
+        }
+    }
+    len
+}
+
+// What is left of the run at i, at most 255.
+fn run_at(src: &[u8], i: usize) -> usize
+    requires { ⌜ i < length (now src) ⌝ }
+    ensures { λ r. ⌜ RunLeft (now (src .entry)) i r ⌝ }
+{
+    let v = src[i];
+    let mut n: usize = 1;
+    while n < 255 {
+        if src.len() <= i + n {
+            return n;
+        }
+        if src[i + n] != v {
+            return n;
+        }
+        n += 1;
+    }
+    n
+}
+
+// Whether the next byte is another one; where it says so, the run at i has one byte left.
+fn unlike_next(src: &[u8], i: usize) -> bool
+    requires { ⌜ i < length (now src) ⌝ }
+    ensures { λ r. ⌜ (r ≡ true → runAt (now (src .entry)) i ≡ 1) ⌝ }
+{
+    if i + 1 < src.len() {
+        return src[i + 1] != src[i];
+    }
+    false
+}
+
+// One byte at o.
+fn put_one(dst: &mut [u8], o: usize, v: u8)
+    requires { ⌜ o < length (now dst) ⌝ }
+    ensures { λ _. ⌜ Put (now (dst .entry)) o (v ∷ []) (now (dst .exit)) ⌝ }
+{
+    dst[o] = v;
+}
+
+// Two bytes from o on.
+fn put_two(dst: &mut [u8], o: usize, v: u8, w: u8)
+    requires { ⌜ o + 2 ≤ length (now dst) ⌝ }
+    ensures { λ _. ⌜ Put (now (dst .entry)) o (v ∷ w ∷ []) (now (dst .exit)) ⌝ }
+{
+    dst[o] = v;
+    dst[o + 1] = w;
+}
+
+// The code of a run.
+fn put_run(dst: &mut [u8], o: usize, n: usize, v: u8)
+    requires { ⌜ (o + 4 ≤ length (now dst)) × (n < 256) ⌝ }
+    ensures { λ _. ⌜ Put (now (dst .entry)) o (237 ∷ 237 ∷ n ∷ v ∷ []) (now (dst .exit)) ⌝ }
+{
+    dst[o] = 237;
+    dst[o + 1] = 237;
+    dst[o + 2] = n as u8;
+    dst[o + 3] = v;
+}
+
+// n times v, at most four, from o on: four bytes are stored where there is room for them.
+fn put_short(dst: &mut [u8], o: usize, n: usize, v: u8)
+    requires { ⌜ (o + n ≤ length (now dst)) × (n ≤ 4) ⌝ }
+    ensures { λ _. ⌜ Put (now (dst .entry)) o (replicate n v) (now (dst .exit)) ⌝ }
+{
+    if o + 4 <= dst.len() {
+        dst[o] = v;
+        dst[o + 1] = v;
+        dst[o + 2] = v;
+        dst[o + 3] = v;
+        return;
+    }
+    let e = o + n;
+    slices::fill(&mut dst[o..e], v);
+}

@@ -1,0 +1,18 @@
+use borrow.Author.Needs.{needs}
+use Rattle.packing_exports.proofs.packing_unpack.Statement.{statement}
+use Rattle.packing_exports.proofs.packing_unpack.Tie as tie
+
+unpack-requires : tie.Need-unpack-requires
+unpack-requires c κs = search needs
+
+unpack-code-requires : tie.Need-unpack-code-requires
+unpack-code-requires c κs = search needs
+
+same-length : tie.Need-same-length
+same-length c = search needs
+
+returns : tie.Need-returns
+returns c = (cc, search needs)
+
+pub packing-unpack-spec : {M : Type 1} → statement M
+packing-unpack-spec = tie.close (tie.spec unpack-requires unpack-code-requires same-length returns)

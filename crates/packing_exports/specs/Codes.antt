@@ -1,0 +1,19 @@
+-- The numbers that the test exports answer.
+use Prim.Native.Nat.{ℕ}
+use Rattle.packing.specs.declared.Unpacked.{Unpacked}
+use Rattle.packing.specs.declared.Unpacked.the-variants.{Good, WrongLength, Malformed}
+use Rattle.packing.specs.declared.Fit.{Fit}
+use Rattle.packing.specs.declared.Fit.the-variants.{Length, TooShort}
+
+abbrev pub unpackCode : Unpacked → ℕ
+unpackCode Good = 0
+unpackCode Malformed = 1
+unpackCode WrongLength = 2
+
+abbrev pub packCode : Fit → ℕ
+packCode (Length n) = 0
+packCode TooShort = 1
+
+abbrev pub lengthIn : Fit → ℕ
+lengthIn (Length n) = n
+lengthIn TooShort = 0

@@ -1,0 +1,63 @@
+// The packing crate's functions under C names, for tests and benchmarks only.
+use packing::Fit;
+use packing::Unpacked;
+ghost use mathlib.Core.Path.{_≡_};
+ghost use lib.ListN.{length};
+ghost use Rattle.packing.specs.Packed.{unpacked, packed};
+ghost use Rattle.packing.specs.Unpacking.{answerOf, leftBy};
+ghost use Rattle.packing.specs.Packing.{fits, fitted};
+ghost use Rattle.packing_exports.specs.Codes.{unpackCode, packCode, lengthIn};
+
+// 0 good, 1 malformed, 2 wrong length.
+#[no_mangle]
+pub extern "C" fn packing_unpack(src: &[u8], dst: &mut [u8]) -> u32
+    ensures { λ r. ⌜ (r ≡ unpackCode (answerOf (unpacked (now (src .entry))) (length (now (dst .entry))))) × (now (dst .exit) ≡ leftBy (unpacked (now (src .entry))) (length (now (dst .entry)))) ⌝ }
+{
+    unpack_code(packing::unpack(src, dst))
+}
+
+// 0 and the packed length, or 1 and length 0 where dst is too short.
+#[no_mangle]
+pub extern "C" fn packing_pack(src: &[u8], dst: &mut [u8], size: &mut u64) -> u32
+    ensures { λ r. ⌜ (r ≡ packCode (fits (packed (now (src .entry))) (length (now (dst .entry))))) × ((now (size .exit) ≡ lengthIn (fits (packed (now (src .entry))) (length (now (dst .entry))))) × (now (dst .exit) ≡ fitted (packed (now (src .entry))) (length (now (dst .entry))))) ⌝ }
+{
+    let r = packing::pack(src, dst);
+    *size = length_in(r);
+    pack_code(r)
+}
+
+// The packed length.
+#[no_mangle]
+pub extern "C" fn packing_packed_len(src: &[u8]) -> u64
+    ensures { λ r. ⌜ r ≡ length (packed (now (src .entry))) ⌝ }
+{
+    packing::packed_len(src) as u64
+}
+
+fn unpack_code(r: Unpacked) -> u32
+    ensures { λ n. ⌜ n ≡ unpackCode r ⌝ }
+{
+    match r {
+        Unpacked::Good => 0,
+        Unpacked::Malformed => 1,
+        Unpacked::WrongLength => 2,
+    }
+}
+
+fn pack_code(r: Fit) -> u32
+    ensures { λ n. ⌜ n ≡ packCode r ⌝ }
+{
+    match r {
+        Fit::Length(_) => 0,
+        Fit::TooShort => 1,
+    }
+}
+
+fn length_in(r: Fit) -> u64
+    ensures { λ n. ⌜ n ≡ lengthIn r ⌝ }
+{
+    match r {
+        Fit::Length(n) => n as u64,
+        Fit::TooShort => 0,
+    }
+}

@@ -1,0 +1,38 @@
+-- Laws of bytes written over others.
+use Prim.Native.Nat.{ℕ, _+_, _-_, _≤_}
+use native.Mathlib.Nat.{add-assoc}
+use native.Mathlib.Omega.{arith}
+use mathlib.Core.Path.{_≡_, ap, _∙_}
+use mathlib.Core.List.{List, _++_, append-assoc, append-nil}
+use lib.ListN.{length, take, drop, length-append, length-drop, drop-of-length-le}
+use lib.Seq.{take-all, take-length, length-take-le, take-at, drop-at, drop-drop}
+use borrow.Rule.Slice.PartMut.{putMid, midOf}
+use Rattle.slices.specs.Put.{put}
+
+-- what a copy into the part from i on leaves
+pub put-is : (d src l : List ℕ) (i : ℕ) → i + length src ≤ length d
+    → l ≡ take (length src) src ++ drop (length src) (midOf i (length d - i) d) → putMid i (length d - i) d l ≡ put d i src
+unfolding put
+put-is d src l i h q =
+    let e : length (drop i d) ≡ length d - i = length-drop i d in
+    rw (q, take-length src, take-all (length d - i) (drop i d) (omega arith), drop-of-length-le (drop i d) {i = length d - i} (omega arith), append-nil, drop-drop)
+
+pub length-put : (d src : List ℕ) (i : ℕ) → i + length src ≤ length d → length (put d i src) ≡ length d
+unfolding put
+length-put d src i h =
+    let t : length (take i d) ≡ i = length-take-le i d (omega arith) in
+    simp (length-append, length-drop) (omega arith)
+
+-- two pieces written one after the other are one piece
+pub put-put : (d p q : List ℕ) (i n : ℕ) → i + length p ≡ n → n ≤ length d → put (put d i p) n q ≡ put d i (p ++ q)
+unfolding put
+put-put d p q i n e h =
+    let k : length (take i d ++ p) ≡ n = length-append (take i d) p ∙ ap (λ (m : ℕ). m + length p) (length-take-le i d (omega arith)) ∙ e in
+    rw (
+      ← append-assoc (take i d) p (drop (i + length p) d),
+      take-at (take i d ++ p) (drop (i + length p) d) n k,
+      ← drop-drop (length q) n ((take i d ++ p) ++ drop (i + length p) d),
+      drop-at (take i d ++ p) (drop (i + length p) d) n k,
+      drop-drop,
+    )
+    (simp (append-assoc, length-append, add-assoc))

@@ -1,0 +1,49 @@
+// Loops over lent bytes that every layer uses: fill, clear, put.
+ghost use Prim.Native.Nat.{_+_, _-_, _≤_, _<_};
+ghost use mathlib.Core.Path.{_≡_};
+ghost use mathlib.Core.List.{_++_};
+ghost use lib.ListN.{length, take, replicate};
+ghost use Rattle.slices.specs.Put.{put};
+
+// Every byte of dst becomes v.
+pub fn fill(dst: &mut [u8], v: u8)
+    ensures { λ _. ⌜ now (dst .exit) ≡ replicate (length (now (dst .entry))) v ⌝ }
+{
+    let mut i = 0;
+    while i < dst.len() {
+        dst[i] = v;
+        i += 1;
+    }
+}
+
+// Zeros from n on; nothing changes where n is past the end.
+pub fn clear_from(dst: &mut [u8], n: usize)
+    ensures { λ _. ⌜ now (dst .exit) ≡ take n (now (dst .entry)) ++ replicate (length (now (dst .entry)) - n) 0 ⌝ }
+{
+    if dst.len() <= n {
+        return;
+    }
+    fill(&mut dst[n..], 0);
+}
+
+// src written over dst from at on.
+pub fn put_at(dst: &mut [u8], at: usize, src: &[u8])
+    requires { ⌜ at + length (now src) ≤ length (now dst) ⌝ }
+    ensures { λ _. ⌜ now (dst .exit) ≡ put (now (dst .entry)) at (now (src .entry)) ⌝ }
+{
+    bytes::copy(src, &mut dst[at..]);
+}
+
+// The lesser of two.
+pub fn least(a: usize, b: usize) -> usize
+    ensures { λ r. ⌜ (r ≤ a) × (r ≤ b) ⌝ }
+{
+    if a < b { a } else { b }
+}
+
+// A byte as an index or a count.
+pub fn wide(x: u8) -> usize
+    ensures { λ r. ⌜ (r ≡ x) × (r < 256) ⌝ }
+{
+    x as usize
+}
