@@ -1,0 +1,56 @@
+//! Times of contenders that do the same work, measured in turn in one process.
+
+use reference::memory::Rng;
+use std::time::{Duration, Instant};
+
+/// Measurements of every contender.
+const ROUNDS: usize = 20;
+
+/// The shortest measurement.
+const LEAST: Duration = Duration::from_millis(1);
+
+pub type Contender<'a> = Box<dyn FnMut() + 'a>;
+
+/// The median nanoseconds of one call of each contender.
+pub fn medians(contenders: &mut [Contender], rng: &mut Rng) -> Vec<f64> {
+    let repeats: Vec<u32> = contenders.iter_mut().map(repetitions).collect();
+    let mut times = vec![Vec::with_capacity(ROUNDS); contenders.len()];
+    for _ in 0..ROUNDS {
+        for which in shuffled(contenders.len(), rng) {
+            let time = measure(&mut contenders[which], repeats[which]);
+            times[which].push(time.as_nanos() as f64 / f64::from(repeats[which]));
+        }
+    }
+    times.into_iter().map(median).collect()
+}
+
+fn measure(contender: &mut Contender, repeats: u32) -> Duration {
+    let start = Instant::now();
+    for _ in 0..repeats {
+        contender();
+    }
+    start.elapsed()
+}
+
+/// How many calls make one measurement long enough.
+fn repetitions(contender: &mut Contender) -> u32 {
+    let mut repeats = 1;
+    while measure(contender, repeats) < LEAST * 2 {
+        repeats *= 2;
+    }
+    repeats
+}
+
+fn shuffled(length: usize, rng: &mut Rng) -> Vec<usize> {
+    let mut order: Vec<usize> = (0..length).collect();
+    for i in (1..length).rev() {
+        order.swap(i, rng.below(i + 1));
+    }
+    order
+}
+
+fn median(mut times: Vec<f64>) -> f64 {
+    times.sort_by(f64::total_cmp);
+    let middle = times.len() / 2;
+    (times[middle - 1] + times[middle]) / 2.0
+}

@@ -1,0 +1,37 @@
+use Rattle.spectrum.proofs.Validity.{quiet-48, quiet-128}
+use borrow.Author.Needs.{needs}
+use Rattle.spectrum.proofs.Machine.quiet.Statement.{statement}
+use Rattle.spectrum.proofs.Machine.quiet.Tie as tie
+
+enum-told : tie.Need-enum-told
+enum-told c = search needs
+
+silent16-requires : tie.Need-silent16-requires
+silent16-requires c κs = search needs
+
+and-requires : tie.Need-and-requires
+and-requires c κs = search needs
+
+and-requires-2 : tie.Need-and-requires-2
+and-requires-2 c κs = search needs
+
+enum-told-2 : tie.Need-enum-told-2
+enum-told-2 c = search needs
+
+returns : tie.Need-returns
+returns c = search quiet-48
+
+returns-2 : tie.Need-returns-2
+returns-2 c = search quiet-128
+
+pub quiet-spec : {M : Type 1} → statement M
+quiet-spec =
+    tie.close
+    (tie.spec
+    enum-told
+    silent16-requires
+    and-requires
+    and-requires-2
+    enum-told-2
+    returns
+    returns-2)

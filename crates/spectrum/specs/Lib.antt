@@ -1,0 +1,5 @@
+pub mod Numbers
+pub mod Machine
+pub mod Clock
+pub mod Pages
+pub mod Valid

@@ -1,0 +1,36 @@
+-- Document 01, "The machine and the area": which RAM pages a machine owns, and where an address leads.
+use Prim.Native.Nat.{ℕ, _-_, _*_, _%_}
+use mathlib.Core.Bool.{Bool, true, false}
+use mathlib.Core.List.{List, [], _∷_}
+use lib.ListN.{getD, take, drop, replicate}
+use lib.Dec.{ltb}
+use Rattle.slices.specs.Choose.{choose}
+use Rattle.spectrum.specs.declared.Model.{Model}
+use Rattle.spectrum.specs.declared.Model.the-variants.{K48, K128}
+use Rattle.spectrum.specs.declared.Place.{Place}
+use Rattle.spectrum.specs.declared.Place.the-variants.{Rom, Ram}
+
+-- "A 48K machine owns pages 5, 2 and 0. A 128K machine owns all eight": whether each page is owned
+abbrev pub ownership : Model → List Bool
+ownership K48 = true ∷ false ∷ true ∷ false ∷ false ∷ true ∷ false ∷ false ∷ []
+ownership K128 = replicate 8 true
+
+abbrev pub owned : Model → ℕ → Bool
+owned model page = getD (ownership model) page false
+
+-- the page at C000: 0 in a 48K machine, "the last OUT to 7FFD modulo 8" in a 128K machine
+abbrev pub topPage : Model → ℕ → ℕ
+topPage K48 out = 0
+topPage K128 out = out % 8
+
+-- below 4000 the ROM; 4000-7FFF page 5; 8000-BFFF page 2; C000-FFFF the page at C000
+abbrev pub placeOf : Model → ℕ → ℕ → Place
+placeOf model out address =
+    choose (ltb address 0x4000) Rom
+    (choose (ltb address 0x8000) (Ram 5 (address - 0x4000))
+    (choose (ltb address 0xC000) (Ram 2 (address - 0x8000))
+    (Ram (topPage model out) (address - 0xC000))))
+
+-- "RAM pages 0 to 7 lie in the area in that order": a page's 16,384 bytes
+abbrev pub pageIn : List ℕ → ℕ → List ℕ
+pageIn area page = take 16384 (drop (page * 16384) area)

@@ -1,0 +1,48 @@
+-- "A machine is valid if its interrupt mode is 0-2, border 0-7, joystick 0-3, frame position below 4q, and, in 48K mode,
+-- last OUTs and sound registers are 0."
+use Prim.Native.Nat.{ℕ, _<_}
+use mathlib.Core.Path.{_≡_}
+use mathlib.Core.Bool.{Bool, true}
+use mathlib.Core.List.{List, [], _∷_}
+use lib.ListN.{length, getD, replicate}
+use lib.Dec.{ltb, eqb}
+use Rattle.slices.specs.Choose.{both}
+use Rattle.spectrum.specs.declared.Machine.{Machine}
+use Rattle.spectrum.specs.declared.Model.{Model}
+use Rattle.spectrum.specs.declared.Model.the-variants.{K48, K128}
+use Rattle.spectrum.specs.Clock.{clockEnd}
+
+-- whether every element is 0
+abbrev pub zeros : List ℕ → Bool
+zeros [] = true
+zeros (x ∷ xs) = both (eqb x 0) (zeros xs)
+
+-- in 48K mode last OUTs and sound registers are 0
+abbrev pub quietOf : Model → Machine → Bool
+quietOf K48 m = both (eqb (m .out7ffd) 0) (both (eqb (m .outfffd) 0) (zeros (m .sound)))
+quietOf K128 m = true
+
+unfoldable pub validOf : Machine → Bool
+validOf m =
+    both (ltb (m .switches .im) 3)
+    (both (ltb (m .switches .border) 8)
+    (both (ltb (m .switches .joystick) 4)
+    (both (ltb (m .position) (clockEnd (m .model))) (quietOf (m .model) m))))
+
+-- what validOf says, part by part
+pub record Valid (m : Machine) : Type 0 where
+  pub im : m .switches .im < 3
+  pub border : m .switches .border < 8
+  pub joystick : m .switches .joystick < 4
+  pub position : m .position < clockEnd (m .model)
+  pub out7ffd : m .model ≡ K48 → m .out7ffd ≡ 0
+  pub outfffd : m .model ≡ K48 → m .outfffd ≡ 0
+  pub silent : m .model ≡ K48 → m .sound ≡ replicate 16 0
+
+-- what the types of a machine's fields say of every machine that code holds
+pub record Typed (m : Machine) : Type 0 where
+  pub pairs : (k : ℕ) → getD (m .pairs) k 0 < 65536
+  pub count : length (m .pairs) ≡ 12
+  pub r8 : m .r < 256
+  pub sound : length (m .sound) ≡ 16
+  pub side : length (m .side) ≡ 25

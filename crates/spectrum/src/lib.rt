@@ -1,0 +1,371 @@
+// A Spectrum's state as one record by value, its pages and paging, the frame clock, and the numbers that calls answer.
+ghost use Prim.Native.Nat.{ℕ, _-_, _<_};
+ghost use mathlib.Core.Path.{_≡_};
+ghost use mathlib.Core.Bool.{not};
+ghost use lib.ListN.{getD};
+ghost use lib.Dec.{ltb};
+ghost use Rattle.slices.specs.Choose.{both};
+ghost use Rattle.spectrum.specs.Machine.{withPair, withOut, blankMachine};
+ghost use Rattle.spectrum.specs.Valid.{Typed, zeros, quietOf, validOf};
+ghost use Rattle.spectrum.specs.Pages.{owned, topPage, placeOf};
+ghost use Rattle.spectrum.specs.Clock.{quarter, positionOf, lowOf, highOf, clockEnd};
+ghost use Rattle.spectrum.specs.Numbers.{numberOf, refusalNumber};
+
+pub enum Model {
+    K48,
+    K128,
+}
+
+pub enum Attachment {
+    Nothing,
+    InterfaceI,
+    Mgt,
+}
+
+pub enum Video {
+    Normal,
+    High,
+    Low,
+}
+
+pub struct Switches {
+    pub border: u8,
+    pub iff1: bool,
+    pub iff2: bool,
+    pub im: u8,
+    pub issue2: bool,
+    pub double: bool,
+    pub video: Video,
+    pub joystick: u8,
+}
+
+// All that document 01 carries of a machine but its memory.
+pub struct Machine {
+    // AF BC DE HL AF' BC' DE' HL' IX IY SP PC
+    pub pairs: [u16; 12],
+    pub i: u8,
+    pub r: u8,
+    pub switches: Switches,
+    pub model: Model,
+    pub attachment: Attachment,
+    // the last OUT to 7FFD
+    pub out7ffd: u8,
+    pub byte36: u8,
+    // bits 0 and 1 of byte 37
+    pub remulation: bool,
+    pub ldiremulation: bool,
+    // the last OUT to FFFD
+    pub outfffd: u8,
+    pub sound: [u8; 16],
+    // the frame position
+    pub position: u32,
+    // the 26 side bytes: byte 59, and bytes 61 to 85
+    pub side59: u8,
+    pub side: [u8; 25],
+}
+
+// Where an address of the processor leads.
+pub enum Place {
+    Rom,
+    Ram { page: usize, offset: usize },
+}
+
+// Why a call is refused, in the order of document 01's table.
+pub enum Refusal {
+    AreaLength,
+    FileShort,
+    UnknownVersion,
+    ModeNotCarried,
+    InterruptMode,
+    CounterRange,
+    Byte60,
+    BlockCut,
+    BlockNumber,
+    BlockTwice,
+    MalformedData,
+    UnpackedLength,
+    BlockMissing,
+    EndMarker,
+    InvalidMachine,
+    MemoryLength,
+    OutputShort,
+    RomAddress,
+    OutOn48k,
+    PagingLocked,
+    JournalFull,
+    NothingToMove,
+    StepDamaged,
+    CountsDisagree,
+    PageNotOwned,
+    RomLength,
+    PairNumber,
+}
+
+pub enum Answer {
+    Accepted,
+    Refused(Refusal),
+}
+
+impl Machine {
+    // "The blank machine".
+    pub fn blank() -> Machine
+        ensures { λ r. ⌜ r ≡ blankMachine ⌝ }
+    {
+        let pairs = [0u16; 12];
+        let sound = [0u8; 16];
+        let side = [0u8; 25];
+        let switches = Switches {
+            border: 0,
+            iff1: false,
+            iff2: false,
+            im: 0,
+            issue2: false,
+            double: false,
+            video: Video::Normal,
+            joystick: 0,
+        };
+        Machine {
+            pairs: pairs,
+            i: 0,
+            r: 0,
+            switches: switches,
+            model: Model::K48,
+            attachment: Attachment::Nothing,
+            out7ffd: 0,
+            byte36: 0,
+            remulation: false,
+            ldiremulation: false,
+            outfffd: 0,
+            sound: sound,
+            position: 0,
+            side59: 0,
+            side: side,
+        }
+    }
+
+    pub fn pair(self, p: usize) -> u16
+        requires { ⌜ p < 12 ⌝ }
+        ensures { λ r. ⌜ r ≡ getD (self .pairs) p 0 ⌝ }
+    {
+        self.pairs[p]
+    }
+
+    pub fn with_pair(mut self, p: usize, value: u16) -> Machine
+        requires { ⌜ p < 12 ⌝ }
+        ensures { λ r. ⌜ r ≡ withPair self p value ⌝ }
+    {
+        self.pairs[p] = value;
+        self
+    }
+
+    pub fn with_out(mut self, value: u8) -> Machine
+        ensures { λ r. ⌜ r ≡ withOut self value ⌝ }
+    {
+        self.out7ffd = value;
+        self
+    }
+
+    // Whether the machine is valid by document 01.
+    pub fn valid(self) -> bool
+        ensures { λ r. ⌜ r ≡ validOf self ⌝ }
+    {
+        let switches = self.switches;
+        let model = self.model;
+        let im = below(switches.im as u32, 3);
+        let border = below(switches.border as u32, 8);
+        let joystick = below(switches.joystick as u32, 4);
+        let position = below(self.position, clock_end(model));
+        let quiet = self.quiet();
+        and(im, and(border, and(joystick, and(position, quiet))))
+    }
+
+    // Whether what a 48K machine does not carry is 0.
+    fn quiet(self) -> bool
+        ensures { λ r. ⌜ r ≡ quietOf (self .model) self ⌝ }
+    {
+        let model = self.model;
+        let sound = self.sound;
+        match model {
+            Model::K48 => and(self.out7ffd == 0, and(self.outfffd == 0, silent16(&sound))),
+            Model::K128 => true,
+        }
+    }
+
+    // Where an address leads.
+    pub fn place(self, address: u16) -> Place
+        ensures { λ r. ⌜ r ≡ placeOf (self .model) (self .out7ffd) address ⌝ }
+    {
+        let model = self.model;
+        let a = address as usize;
+        if a < 16384 {
+            return Place::Rom;
+        }
+        if a < 32768 {
+            return Place::Ram {
+                page: 5,
+                offset: a - 16384,
+            };
+        }
+        if a < 49152 {
+            return Place::Ram {
+                page: 2,
+                offset: a - 32768,
+            };
+        }
+        Place::Ram {
+            page: top_page(model, self.out7ffd),
+            offset: a - 49152,
+        }
+    }
+
+    // What the types of the fields say, for a caller's proof.
+    pub fn typed(self)
+        ensures { λ _. ⌜ Typed self ⌝ }
+    {}
+}
+
+fn and(a: bool, b: bool) -> bool
+    ensures { λ r. ⌜ r ≡ both a b ⌝ }
+{
+    if a { b } else { false }
+}
+
+fn below(a: u32, b: u32) -> bool
+    ensures { λ r. ⌜ r ≡ ltb a b ⌝ }
+{
+    a < b
+}
+
+fn silent16(sound: &[u8; 16]) -> bool
+    ensures { λ r. ⌜ r ≡ zeros (now (sound .entry)) ⌝ }
+{
+    silent(sound)
+}
+
+fn silent(sound: &[u8]) -> bool
+    ensures { λ r. ⌜ r ≡ zeros (now (sound .entry)) ⌝ }
+{
+    let mut i = 0;
+    while i < sound.len() {
+        if sound[i] != 0 {
+            return false;
+        }
+        i += 1;
+    }
+    true
+}
+
+fn clock_end(model: Model) -> u32
+    ensures { λ r. ⌜ r ≡ clockEnd model ⌝ }
+{
+    match model {
+        Model::K48 => 69888,
+        Model::K128 => 70908,
+    }
+}
+
+// a less b, and 0 where b is the greater.
+fn less(a: u32, b: u32) -> u32
+    ensures { λ r. ⌜ r ≡ a - b ⌝ }
+{
+    if a < b { 0 } else { a - b }
+}
+
+// The frame position for two counters.
+pub fn position(model: Model, low: u16, high: u8) -> u32
+    ensures { λ r. ⌜ r ≡ positionOf model low high ⌝ }
+{
+    let turn = (high as u32 + 1) % 4;
+    let back = low as u32;
+    match model {
+        Model::K48 => turn * 17472 + less(17471, back),
+        Model::K128 => turn * 17727 + less(17726, back),
+    }
+}
+
+// The low counter at a frame position.
+pub fn low_counter(model: Model, position: u32) -> u32
+    ensures { λ r. ⌜ r ≡ lowOf model position ⌝ }
+{
+    match model {
+        Model::K48 => 17471 - position % 17472,
+        Model::K128 => 17726 - position % 17727,
+    }
+}
+
+// The high counter at a frame position.
+pub fn high_counter(model: Model, position: u32) -> u32
+    ensures { λ r. ⌜ r ≡ highOf model position ⌝ }
+{
+    match model {
+        Model::K48 => (position / 17472 + 3) % 4,
+        Model::K128 => (position / 17727 + 3) % 4,
+    }
+}
+
+// Whether a machine owns a RAM page.
+pub fn owns(model: Model, page: usize) -> bool
+    ensures { λ r. ⌜ r ≡ owned model page ⌝ }
+{
+    if 8 <= page {
+        return false;
+    }
+    let pages48 = [true, false, true, false, false, true, false, false];
+    match model {
+        Model::K48 => pages48[page],
+        Model::K128 => true,
+    }
+}
+
+fn top_page(model: Model, out: u8) -> usize
+    ensures { λ r. ⌜ r ≡ topPage model out ⌝ }
+{
+    match model {
+        Model::K48 => 0,
+        Model::K128 => (out % 8) as usize,
+    }
+}
+
+// The number of an answer.
+pub fn number(answer: Answer) -> u32
+    ensures { λ r. ⌜ r ≡ numberOf answer ⌝ }
+{
+    match answer {
+        Answer::Accepted => 0,
+        Answer::Refused(why) => refusal_number(why),
+    }
+}
+
+fn refusal_number(why: Refusal) -> u32
+    ensures { λ r. ⌜ r ≡ refusalNumber why ⌝ }
+{
+    match why {
+        Refusal::AreaLength => 1,
+        Refusal::FileShort => 2,
+        Refusal::UnknownVersion => 3,
+        Refusal::ModeNotCarried => 4,
+        Refusal::InterruptMode => 5,
+        Refusal::CounterRange => 6,
+        Refusal::Byte60 => 7,
+        Refusal::BlockCut => 8,
+        Refusal::BlockNumber => 9,
+        Refusal::BlockTwice => 10,
+        Refusal::MalformedData => 11,
+        Refusal::UnpackedLength => 12,
+        Refusal::BlockMissing => 13,
+        Refusal::EndMarker => 14,
+        Refusal::InvalidMachine => 20,
+        Refusal::MemoryLength => 21,
+        Refusal::OutputShort => 22,
+        Refusal::RomAddress => 23,
+        Refusal::OutOn48k => 24,
+        Refusal::PagingLocked => 25,
+        Refusal::JournalFull => 26,
+        Refusal::NothingToMove => 27,
+        Refusal::StepDamaged => 28,
+        Refusal::CountsDisagree => 29,
+        Refusal::PageNotOwned => 30,
+        Refusal::RomLength => 31,
+        Refusal::PairNumber => 32,
+    }
+}

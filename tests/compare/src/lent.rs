@@ -1,0 +1,66 @@
+//! A part lent for a call: dirty before it, inside guard bytes that must stay.
+
+use std::hint::black_box;
+
+const GUARD: usize = 32;
+
+pub struct Lent {
+    buffer: Vec<u8>,
+    length: usize,
+    fill: u64,
+}
+
+/// The dirty byte at a place: never 0, so that a missing zero is seen.
+fn dirty(fill: u64, at: usize) -> u8 {
+    let mixed = fill.rotate_left(at as u32 % 64) as u8;
+    mixed.wrapping_add(at as u8) | 1 << (fill % 8)
+}
+
+impl Lent {
+    /// A part of `length` bytes, dirty in a way given by `fill`.
+    pub fn new(length: usize, fill: u64) -> Lent {
+        let buffer = (0..length + 2 * GUARD).map(|at| dirty(fill, at));
+        Lent {
+            buffer: buffer.collect(),
+            length,
+            fill,
+        }
+    }
+
+    /// A part that holds `bytes`, to be read only.
+    pub fn holding(bytes: &[u8], fill: u64) -> Lent {
+        let mut lent = Lent::new(bytes.len(), fill);
+        lent.part_mut().copy_from_slice(bytes);
+        lent
+    }
+
+    pub fn part(&self) -> &[u8] {
+        &self.buffer[GUARD..GUARD + self.length]
+    }
+
+    pub fn part_mut(&mut self) -> &mut [u8] {
+        &mut self.buffer[GUARD..GUARD + self.length]
+    }
+
+    /// What is wrong with the part or its guards, if anything, after a call.
+    pub fn difference(&self, expected: &[u8]) -> Option<String> {
+        let buffer = black_box(&self.buffer);
+        let end = GUARD + self.length;
+        for at in (0..GUARD).chain(end..end + GUARD) {
+            if buffer[at] != dirty(self.fill, at) {
+                let place = at as isize - GUARD as isize;
+                return Some(format!("guard byte at {place} is now {:02X}", buffer[at]));
+            }
+        }
+        let part = &buffer[GUARD..end];
+        if part == expected {
+            return None;
+        }
+        let at = part.iter().zip(expected).position(|(a, b)| a != b);
+        let Some(at) = at else {
+            return Some(format!("length {} not {}", part.len(), expected.len()));
+        };
+        let (is, should) = (part[at], expected[at]);
+        Some(format!("byte {at} is {is:02X}, should be {should:02X}"))
+    }
+}

@@ -1,0 +1,6 @@
+//! Ordinary Rust implementations of the rules, written independently of the
+//! library under test, and the data they are compared and timed on.
+#![forbid(unsafe_code)]
+
+pub mod memory;
+pub mod packing;

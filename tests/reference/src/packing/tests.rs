@@ -1,0 +1,135 @@
+//! The examples of the rules, and the fast forms against the plain ones.
+
+use super::*;
+use crate::memory::Rng;
+
+fn list(parts: &[(usize, u8)]) -> Vec<u8> {
+    let runs = parts.iter();
+    runs.flat_map(|&(n, byte)| std::iter::repeat_n(byte, n))
+        .collect()
+}
+
+fn packs(parts: &[(usize, u8)], code: &[u8]) {
+    let data = list(parts);
+    assert_eq!(packed(&data), code);
+    assert_eq!(unpacked(code), Unpacked::Bytes(data));
+}
+
+#[test]
+fn p1_five_zeros() {
+    packs(&[(5, 0)], &[ED, ED, 5, 0]);
+}
+
+#[test]
+fn p2_four_zeros_stay() {
+    packs(&[(4, 0)], &[0, 0, 0, 0]);
+}
+
+#[test]
+fn p3_one_ed() {
+    packs(&[(1, ED)], &[ED]);
+}
+
+#[test]
+fn p4_two_ed() {
+    packs(&[(2, ED)], &[ED, ED, 2, ED]);
+}
+
+#[test]
+fn p5_ed_and_six_zeros() {
+    packs(&[(1, ED), (6, 0)], &[ED, 0, ED, ED, 5, 0]);
+}
+
+#[test]
+fn p6_ed_and_five_zeros_stay() {
+    packs(&[(1, ED), (5, 0)], &[ED, 0, 0, 0, 0, 0]);
+}
+
+#[test]
+fn p7_256_of_one_byte() {
+    packs(&[(256, 0x41)], &[ED, ED, 0xFF, 0x41, 0x41]);
+}
+
+#[test]
+fn p8_256_ed_and_seven_zeros() {
+    let code = [ED, ED, 0xFF, ED, ED, 0, ED, ED, 6, 0];
+    packs(&[(256, ED), (7, 0)], &code);
+}
+
+#[test]
+fn p9_nothing() {
+    packs(&[], &[]);
+}
+
+#[test]
+fn p10_a_run_of_one() {
+    assert_eq!(unpacked(&[ED, ED, 1, 0x41]), Unpacked::Bytes(vec![0x41]));
+}
+
+#[test]
+fn p11_malformed() {
+    for code in [
+        &[ED, ED, 0, 0x41][..],
+        &[ED, ED, 3],
+        &[ED, ED],
+        &[ED, ED, 0],
+    ] {
+        assert_eq!(unpacked(code), Unpacked::Malformed);
+    }
+}
+
+fn check_unpack_into(code: &[u8], length: usize) {
+    let mut part = vec![0xA5; length];
+    let answer = unpack_into(code, &mut part);
+    let (expected, bytes) = match unpacked(code) {
+        Unpacked::Malformed => (Answer::Malformed, vec![0; length]),
+        Unpacked::Bytes(bytes) if bytes.len() == length => (Answer::Good, bytes),
+        Unpacked::Bytes(_) => (Answer::WrongLength, vec![0; length]),
+    };
+    assert_eq!(
+        (answer, part),
+        (expected, bytes),
+        "{code:02X?} into {length}"
+    );
+}
+
+fn check_pack_into(data: &[u8], length: usize) {
+    let mut part = vec![0xA5; length];
+    let answer = pack_into(data, &mut part);
+    let mut bytes = packed(data);
+    let expected = (bytes.len() <= length).then_some(bytes.len());
+    if expected.is_none() {
+        bytes.clear();
+    }
+    bytes.resize(length, 0);
+    assert_eq!(
+        (answer, part),
+        (expected, bytes),
+        "{data:02X?} into {length}"
+    );
+}
+
+#[test]
+fn fast_forms_agree_with_the_plain_ones() {
+    let mut rng = Rng::new(1);
+    for case in 0..60_000 {
+        let longest = if case % 8 == 0 { 300 } else { 9 };
+        let data = rng.runs(30, longest);
+        let code = packed(&data);
+        for length in [code.len(), code.len() + 9, code.len().saturating_sub(1), 0] {
+            check_pack_into(&data, length);
+        }
+        let mut codes = rng.codes(60);
+        if case % 3 == 0 {
+            codes.truncate(rng.below(codes.len() + 1));
+        }
+        let full = match unpacked(&codes) {
+            Unpacked::Bytes(bytes) => bytes.len(),
+            Unpacked::Malformed => rng.below(600),
+        };
+        for length in [full, full + 1, full.saturating_sub(1), rng.below(full + 1)] {
+            check_unpack_into(&codes, length);
+        }
+        check_unpack_into(&data, data.len());
+    }
+}

@@ -1,0 +1,100 @@
+//! Unpacking into a lent part. The fastest of: `windows(2)`, byte loops in steps
+//! of one and two, words and wide compares, each found first or copied along.
+
+use super::words::{every, lowest, word, zero_bytes};
+use crate::packing::{Answer, ED};
+
+/// Source bytes copied and looked at in one step.
+const STEP: usize = 16;
+
+/// A run of up to this many bytes is written as a block of this many.
+const SHORT: usize = 32;
+
+/// Unpacks into the whole of `dst`; a refused `dst` is left all zero.
+pub fn unpack_into(src: &[u8], dst: &mut [u8]) -> Answer {
+    let answer = write_unpacked(src, dst);
+    if answer != Answer::Good {
+        dst.fill(0);
+    }
+    answer
+}
+
+/// Writes steps and short runs as whole blocks: what is too much is written over.
+fn write_unpacked(mut src: &[u8], mut dst: &mut [u8]) -> Answer {
+    while let (Some(chunk), Some(to)) = (
+        src.first_chunk::<{ STEP + 1 }>(),
+        dst.first_chunk_mut::<{ STEP + SHORT }>(),
+    ) {
+        to[..STEP].copy_from_slice(&chunk[..STEP]);
+        let plain = find_code(chunk);
+        if plain == STEP {
+            (src, dst) = (&src[STEP..], &mut dst[STEP..]);
+            continue;
+        }
+        let [_, _, count @ 1..=255, byte, after @ ..] = &src[plain..] else {
+            return Answer::Malformed;
+        };
+        let (count, room) = (usize::from(*count), &mut dst[plain..]);
+        if count <= SHORT {
+            room[..SHORT].fill(*byte);
+        } else if count <= room.len() {
+            room[..count].fill(*byte);
+        } else {
+            return without_room(after);
+        }
+        (src, dst) = (after, &mut room[count..]);
+    }
+    write_end(src, dst)
+}
+
+/// Where ED ED starts in the step, or STEP if it does not.
+#[inline]
+fn find_code(chunk: &[u8; STEP + 1]) -> usize {
+    for at in [0, 8] {
+        let (first, second) = (word(chunk, at), word(chunk, at + 1));
+        let marks = zero_bytes((first ^ every(ED)) | (second ^ every(ED)));
+        if marks != 0 {
+            return at + lowest(marks);
+        }
+    }
+    STEP
+}
+
+/// Unpacks where the source or the part is nearly at its end.
+fn write_end(mut src: &[u8], mut dst: &mut [u8]) -> Answer {
+    loop {
+        let (plain, codes) = src.split_at(plain_length(src));
+        let Some((to, room)) = dst.split_at_mut_checked(plain.len()) else {
+            return without_room(codes);
+        };
+        to.copy_from_slice(plain);
+        let (count, byte, after) = match codes {
+            [] if room.is_empty() => return Answer::Good,
+            [] => return Answer::WrongLength,
+            [_, _, count @ 1..=255, byte, after @ ..] => (usize::from(*count), *byte, after),
+            _ => return Answer::Malformed,
+        };
+        let Some((to, room)) = room.split_at_mut_checked(count) else {
+            return without_room(after);
+        };
+        to.fill(byte);
+        (src, dst) = (after, room);
+    }
+}
+
+/// The answer where the part is too short and `src` is still unread.
+fn without_room(mut src: &[u8]) -> Answer {
+    loop {
+        src = match &src[plain_length(src)..] {
+            [] => return Answer::WrongLength,
+            [_, _, 1..=255, _, after @ ..] => after,
+            _ => return Answer::Malformed,
+        };
+    }
+}
+
+/// The bytes before the first ED ED.
+fn plain_length(src: &[u8]) -> usize {
+    let code = src.windows(2).position(|pair| pair == [ED, ED]);
+    code.unwrap_or(src.len())
+}
