@@ -1,6 +1,6 @@
 -- Laws of bytes written over others.
 use Prim.Native.Nat.{ℕ, _+_, _-_, _≤_}
-use native.Mathlib.Nat.{add-assoc}
+use native.Mathlib.Nat.{add-assoc, zero-add}
 use native.Mathlib.Omega.{arith}
 use mathlib.Core.Path.{_≡_, ap, _∙_}
 use mathlib.Core.List.{List, _++_, append-assoc, append-nil}
@@ -36,3 +36,7 @@ put-put d p q i n e h =
       drop-drop,
     )
     (simp (append-assoc, length-append, add-assoc))
+
+pub put-zero : (d l : List ℕ) (n : ℕ) → length l ≡ n → put d 0 l ≡ l ++ drop n d
+unfolding put
+put-zero d l n q = ap (λ (m : ℕ). l ++ drop m d) (zero-add (length l) ∙ q)

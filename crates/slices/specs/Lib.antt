@@ -1,2 +1,4 @@
 pub mod Choose
+pub mod Same
 pub mod Put
+pub mod Blank

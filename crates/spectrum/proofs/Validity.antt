@@ -7,11 +7,12 @@ use lib.ListN.{length, replicate}
 use lib.Dec.{eqb}
 use borrow.Author.Tests.{ltb-true, lt-ltb, eqb-true, eq-eqb}
 use Rattle.slices.specs.Choose.{both}
+use Rattle.slices.proofs.Chosen.{both-true}
 use Rattle.spectrum.specs.declared.Machine.{Machine}
 use Rattle.spectrum.specs.declared.Model.{Model}
 use Rattle.spectrum.specs.declared.Model.the-variants.{K48, K128}
 use Rattle.spectrum.specs.Valid.{zeros, quietOf, validOf, Valid}
-use Rattle.spectrum.proofs.Zeros.{both-true, zeros-are, zeros-of}
+use Rattle.spectrum.proofs.Zeros.{zeros-are, zeros-of}
 
 pub quiet-48 : (m : Machine) (z b r : Bool) → m .model ≡ K48 → z ≡ zeros (m .sound) → b ≡ both (eqb (m .outfffd) 0) z → r ≡ both (eqb (m .out7ffd) 0) b
     → r ≡ quietOf (m .model) m

@@ -10,6 +10,7 @@ use lib.Seq.{drop-cons}
 use lib.Dec.{eqb}
 use borrow.Author.Tests.{eq-eqb, ne-eqb, eqb-true}
 use Rattle.slices.specs.Choose.{both}
+use Rattle.slices.proofs.Chosen.{both-true}
 use Rattle.spectrum.specs.Valid.{zeros}
 
 -- the first i bytes of s are 0
@@ -32,10 +33,6 @@ module _ (s : List ℕ) (i : ℕ) (g : Passed s i) where
 
   pub passed-all : length s ≤ i → true ≡ zeros s
   passed-all h = sym (ap zeros (drop-of-length-le s {i = i} h)) ∙ g .same
-
-pub both-true : (a b : Bool) → both a b ≡ true → (a ≡ true) × (b ≡ true)
-both-true true b h = (refl, h)
-both-true false b h = let z : _≡_ {A = ℕ} 0 1 = cc in absurd (omega arith)
 
 -- the test's meaning
 pub zeros-are : (s : List ℕ) → zeros s ≡ true → s ≡ replicate (length s) 0

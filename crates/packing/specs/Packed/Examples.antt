@@ -1,6 +1,6 @@
 -- The examples P1 to P11 of document 01, as one table under one statement; and packed data of the greatest length.
 use Prim.Native.Nat.{ℕ, zero, suc}
-use mathlib.Core.Path.{_≡_, refl}
+use mathlib.Core.Path.{_≡_, refl, ap}
 use mathlib.Core.List.{List, [], _∷_, _++_, map}
 use lib.ListN.{length, replicate}
 use Rattle.packing.specs.Packed.{Found, malformed, bytes, unpacked, packed, packedFrom}
@@ -46,3 +46,14 @@ worst (suc n) = 0xED ∷ 0xED ∷ 0 ∷ worst n
 pub longest : (length (worst 5461) ≡ 16384) × (length (packed (worst 5461)) ≡ 27306)
 unfolding worst packed packedFrom
 longest = (refl, refl)
+
+-- k times ED 00
+unfoldable pub mixed : ℕ → List ℕ
+mixed zero = []
+mixed (suc k) = 0xED ∷ 0 ∷ mixed k
+
+-- it packs to itself, so that packing 16,384 such bytes saves none
+pub mixed-packed : (k : ℕ) → packed (mixed k) ≡ mixed k
+unfolding mixed packed packedFrom
+mixed-packed zero = refl
+mixed-packed (suc k) = ap (λ (l : List ℕ). 0xED ∷ 0 ∷ l) (mixed-packed k)

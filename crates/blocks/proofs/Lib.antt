@@ -1,0 +1,5 @@
+pub mod Pages
+pub mod Answers
+pub mod Heads
+pub mod Turns
+pub mod Bodies

@@ -1,0 +1,77 @@
+use borrow.Author.Needs.{needs}
+use Rattle.blocks.specs.Blocks.{blocksInto}
+use lib.ListN.{length, drop}
+use mathlib.Core.Path.{_≡_, refl}
+use Prim.Native.Nat.{_-_}
+use Rattle.blocks.proofs.Turns.{Going, going-none, going-more, going-stop, going-all, going-missing, next-page, next-falls}
+use Rattle.blocks.proofs.read_blocks.Statement.{statement}
+use Rattle.blocks.proofs.read_blocks.Tie as tie
+
+abbrev Inv-loop : tie.InvT-loop
+Inv-loop file from model area₀ seen₀ at₀ area seen at = Going model file (blocksInto model area₀ (drop from file)) area seen at × (length area ≡ length area₀)
+
+abbrev μ-loop : tie.MeasureT-loop
+μ-loop file from model area₀ seen₀ at₀ area seen at = length file - at
+
+loop-holds : tie.Need-loop-holds Inv-loop μ-loop
+loop-holds c = (going-none _ _ _ _, refl)
+
+read-block-requires : tie.Need-read-block-requires Inv-loop μ-loop
+read-block-requires c κs = search needs
+
+enum-known-why : tie.Need-enum-known-why Inv-loop μ-loop
+enum-known-why c = search needs
+
+same-length : tie.Need-same-length Inv-loop μ-loop
+same-length c = search needs
+
+returns : tie.Need-returns Inv-loop μ-loop
+returns c = search going-stop
+
+enum-known-page : tie.Need-enum-known-page Inv-loop μ-loop
+enum-known-page c = search needs
+
+array-write-seen : tie.Need-array-write-seen Inv-loop μ-loop
+array-write-seen c = search next-page
+
+loop-less : tie.Need-loop-less Inv-loop μ-loop
+loop-less c = search next-falls
+
+loop-again : tie.Need-loop-again Inv-loop μ-loop
+loop-again c = (search going-more, search needs)
+
+all-there-requires : tie.Need-all-there-requires Inv-loop μ-loop
+all-there-requires c κs = search needs
+
+same-length-2 : tie.Need-same-length-2 Inv-loop μ-loop
+same-length-2 c = search needs
+
+returns-2 : tie.Need-returns-2 Inv-loop μ-loop
+returns-2 c = search going-all
+
+same-length-3 : tie.Need-same-length-3 Inv-loop μ-loop
+same-length-3 c = search needs
+
+returns-3 : tie.Need-returns-3 Inv-loop μ-loop
+returns-3 c = search going-missing
+
+pub read-blocks-spec : {M : Type 1} → statement M
+read-blocks-spec =
+    tie.close
+    (tie.spec
+    Inv-loop
+    μ-loop
+    loop-holds
+    read-block-requires
+    enum-known-why
+    same-length
+    returns
+    enum-known-page
+    array-write-seen
+    loop-less
+    loop-again
+    all-there-requires
+    same-length-2
+    returns-2
+    same-length-3
+    returns-3)

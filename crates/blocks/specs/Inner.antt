@@ -1,0 +1,57 @@
+-- The contracts of the functions, by the cases of their answers.
+use Prim.Native.Nat.{ℕ, _-_, _*_, _<_, _≤_}
+use mathlib.Core.Path.{_≡_}
+use mathlib.Core.Bool.{Bool}
+use mathlib.Core.List.{List}
+use lib.ListN.{length, take, drop}
+use Rattle.slices.specs.Put.{put}
+use Rattle.packing.specs.Unpacking.{answerOf, leftBy}
+use Rattle.packing.specs.declared.Unpacked.{Unpacked}
+use Rattle.spectrum.specs.declared.Model.{Model}
+use Rattle.spectrum.specs.declared.Refusal.{Refusal}
+use Rattle.spectrum.specs.declared.Answer.{Answer}
+use Rattle.spectrum.specs.declared.Answer.the-variants.{Accepted, Refused}
+use Rattle.blocks.specs.declared.BlockHead.{BlockHead}
+use Rattle.blocks.specs.declared.BlockHead.the-variants.{Bad, Data}
+use Rattle.blocks.specs.declared.Step.{Step}
+use Rattle.blocks.specs.declared.Step.the-variants.{Stop, Next}
+use Rattle.blocks.specs.Blocks.{refused, brought, contents, pageFrom, blockOf, Reading, refusal, whole}
+
+-- as `Unpacks` of the packing crate, with plain data too
+pub record Fills (plain : Bool) (body before after : List ℕ) (r : Unpacked) : Type 0 where
+  pub answer : r ≡ answerOf (contents plain body) (length before)
+  pub memory : after ≡ leftBy (contents plain body) (length before)
+
+-- the block at a place is refused
+pub record Refuses (model : Model) (seen : List Bool) (file : List ℕ) (at : ℕ) (why : Refusal) : Type 0 where
+  pub block : blockOf model seen (drop at file) ≡ refused why
+
+-- the block at a place is what the file's bytes from start to end give for a page
+pub record Holds (model : Model) (seen : List Bool) (file : List ℕ) (at page start end : ℕ) (plain : Bool) : Type 0 where
+  pub block : blockOf model seen (drop at file) ≡ pageFrom (contents plain (take (end - start) (drop start file))) page (drop end file)
+  pub page-small : page < 8
+  pub further : at < start
+  pub ordered : start ≤ end
+  pub within : end ≤ length file
+
+abbrev pub HeadSays : Model → List Bool → List ℕ → ℕ → BlockHead → Type 0
+HeadSays model seen file at (Bad why) = Refuses model seen file at why
+HeadSays model seen file at (Data page start end plain) = Holds model seen file at page start end plain
+
+-- a block that was read: its bytes stand in their page
+pub record Brings (model : Model) (seen : List Bool) (file : List ℕ) (at : ℕ) (before after : List ℕ) (page next : ℕ) : Type 0 where
+  pub page-bytes : List ℕ
+  pub block : blockOf model seen (drop at file) ≡ brought page page-bytes (drop next file)
+  pub placed : after ≡ put before (page * 16384) page-bytes
+  pub page-small : page < 8
+  pub further : at < next
+  pub within : next ≤ length file
+
+abbrev pub StepSays : Model → List Bool → List ℕ → ℕ → List ℕ → List ℕ → Step → Type 0
+StepSays model seen file at before after (Stop why) = Refuses model seen file at why
+StepSays model seen file at before after (Next page next) = Brings model seen file at before after page next
+
+-- a reading's answer and, where it is accepted, its area; refused, the area is free
+abbrev pub Tells : Reading → Answer → List ℕ → Type 0
+Tells (refusal why) r after = r ≡ Refused why
+Tells (whole area) r after = (r ≡ Accepted) × (after ≡ area)

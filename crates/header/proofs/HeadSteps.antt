@@ -1,0 +1,160 @@
+-- The header's refusals and its machine, at each return of the code.
+use Prim.Native.Nat.{ℕ, _+_, _/_, _%_, _<_, _≤_}
+use native.Mathlib.Omega.{arith}
+use mathlib.Core.Path.{_≡_, sym, ap, _∙_}
+use mathlib.Core.Bool.{Bool, true, false}
+use mathlib.Core.List.{List}
+use lib.ListN.{length}
+use lib.Dec.{eqb}
+use borrow.Author.Tests.{lt-ltb, le-ltb, le-leb, lt-leb, eq-eqb, ne-eqb}
+use Rattle.slices.specs.Choose.{choose}
+use Rattle.spectrum.specs.declared.Model.{Model}
+use Rattle.spectrum.specs.declared.Model.the-variants.{K48, K128}
+use Rattle.spectrum.specs.declared.Attachment.{Attachment}
+use Rattle.spectrum.specs.declared.Attachment.the-variants.{Nothing}
+use Rattle.spectrum.specs.declared.Refusal.the-variants.{FileShort, UnknownVersion, ModeNotCarried, InterruptMode, CounterRange, Byte60}
+use Rattle.spectrum.specs.Clock.{quarter}
+use Rattle.header.specs.declared.Version.{Version}
+use Rattle.header.specs.declared.Version.the-variants.{V1, V2, V3}
+use Rattle.header.specs.declared.Known.{Known}
+use Rattle.header.specs.declared.Known.the-variants.{Is, Unknown}
+use Rattle.header.specs.declared.Mode.{Mode}
+use Rattle.header.specs.declared.Mode.the-variants.{Carried, NotCarried}
+use Rattle.header.specs.declared.Head.{Head}
+use Rattle.header.specs.declared.Head.the-variants.{Refused, Header}
+use Rattle.header.specs.Bytes.{at, wordAt, byte12Of}
+use Rattle.header.specs.Reading.{headerLength, pcAt}
+use Rattle.header.specs.Heads.{versionOf, mode2, mode3, modeOf, clockHead, modeHead, laterHead, firstHead, headOf}
+
+-- how long a header is
+pub long-30 : (v : Version) (n : ℕ) → headerLength v ≤ n → 30 ≤ n
+long-30 V1 n h = h
+long-30 V2 n h = omega arith
+long-30 V3 n h = omega arith
+
+pub long-v2 : (v : Version) (n : ℕ) → v ≡ V2 → headerLength v ≤ n → 55 ≤ n
+long-v2 v n e h = rw e at h
+
+pub long-v3 : (v : Version) (n : ℕ) → v ≡ V3 → headerLength v ≤ n → 86 ≤ n
+long-v3 v n e h = rw e at h
+
+pub pc-inside : (v : Version) (n p : ℕ) → headerLength v ≤ n → p ≡ pcAt v → p + 1 < n
+pc-inside V1 n p h e = omega arith
+pc-inside V2 n p h e = omega arith
+pc-inside V3 n p h e = omega arith
+
+pub carry-inside : (m : Model) (n place : ℕ) → m ≡ K128 → (m ≡ K128 → 55 ≤ n) → place < 55 → place < n
+carry-inside m n place e f h = let k : 55 ≤ n = f e in omega arith
+
+-- byte 12
+pub byte12-255 : (s : List ℕ) → at s 12 ≡ 255 → 1 ≡ byte12Of s
+byte12-255 s e = rw (eq-eqb _ _ e)
+
+pub byte12-other : (s : List ℕ) → (at s 12 ≡ 255 → ⊥) → at s 12 ≡ byte12Of s
+byte12-other s h = rw (ne-eqb _ _ h)
+
+-- the default arms
+pub version-other : (n : ℕ) → (n ≡ 23 → ⊥) → (n ≡ 54 → ⊥) → Unknown ≡ versionOf n
+version-other n a b = simp (ne-eqb n 23 a, ne-eqb n 54 b)
+
+pub mode2-other : (n : ℕ) → (n ≡ 0 → ⊥) → (n ≡ 1 → ⊥) → (n ≡ 3 → ⊥) → (n ≡ 4 → ⊥) → NotCarried ≡ mode2 n
+mode2-other n a b c d = simp (ne-eqb n 0 a, ne-eqb n 1 b, ne-eqb n 3 c, ne-eqb n 4 d)
+
+pub mode3-other : (n : ℕ) → (n ≡ 0 → ⊥) → (n ≡ 1 → ⊥) → (n ≡ 3 → ⊥) → (n ≡ 4 → ⊥) → (n ≡ 5 → ⊥) → (n ≡ 6 → ⊥) → NotCarried ≡ mode3 n
+mode3-other n a b c d e f = simp (ne-eqb n 0 a, ne-eqb n 1 b, ne-eqb n 3 c, ne-eqb n 4 d, ne-eqb n 5 e, ne-eqb n 6 f)
+
+pub mode-v1 : (v : Version) (n : ℕ) → v ≡ V1 → Carried K48 Nothing ≡ modeOf v n
+mode-v1 v n e = rw e
+
+pub mode-v2 : (v : Version) (n : ℕ) (r : Mode) → v ≡ V2 → r ≡ mode2 n → r ≡ modeOf v n
+mode-v2 v n r e q = rw e q
+
+pub mode-v3 : (v : Version) (n : ℕ) (r : Mode) → v ≡ V3 → r ≡ mode3 n → r ≡ modeOf v n
+mode-v3 v n r e q = rw e q
+
+-- v1
+module _ (s : List ℕ) (b : ℕ) (eb : b ≡ byte12Of s) where
+  pub first-samrom : b / 16 % 2 ≡ 1 → Refused ModeNotCarried ≡ firstHead s
+  first-samrom h = rw (← eb, eq-eqb (b / 16 % 2) 1 h)
+
+  pub first-im : (b / 16 % 2 ≡ 1 → ⊥) → at s 29 % 4 ≡ 3 → Refused InterruptMode ≡ firstHead s
+  first-im h k = rw (← eb, ne-eqb (b / 16 % 2) 1 h, eq-eqb (at s 29 % 4) 3 k)
+
+  pub first-good : (b / 16 % 2 ≡ 1 → ⊥) → (at s 29 % 4 ≡ 3 → ⊥) → Header V1 K48 Nothing ≡ firstHead s
+  first-good h k = rw (← eb, ne-eqb (b / 16 % 2) 1 h, ne-eqb (at s 29 % 4) 3 k)
+
+-- the clock
+module _ (model : Model) (a : Attachment) (s : List ℕ) (q w : ℕ) (eq : q ≡ quarter model) (ew : w ≡ wordAt s 55) where
+  pub clock-low : q ≤ w → Refused CounterRange ≡ clockHead V3 model a s
+  clock-low h = rw (← eq, ← ew, le-leb q w h)
+
+  pub clock-high : w < q → 3 < at s 57 → Refused CounterRange ≡ clockHead V3 model a s
+  clock-high h k = rw (← eq, ← ew, lt-leb q w h, lt-ltb 3 (at s 57) k)
+
+  pub clock-60 : w < q → at s 57 ≤ 3 → (at s 60 ≡ 0 → ⊥) → Refused Byte60 ≡ clockHead V3 model a s
+  clock-60 h k z = rw (← eq, ← ew, lt-leb q w h, le-ltb 3 (at s 57) k, ne-eqb (at s 60) 0 z)
+
+  pub clock-good : w < q → at s 57 ≤ 3 → at s 60 ≡ 0 → Header V3 model a ≡ clockHead V3 model a s
+  clock-good h k z = rw (← eq, ← ew, lt-leb q w h, le-ltb 3 (at s 57) k, eq-eqb (at s 60) 0 z)
+
+-- a mode that is carried
+module _ (v : Version) (model : Model) (a : Attachment) (s : List ℕ) where
+  pub mode-im : at s 29 % 4 ≡ 3 → Refused InterruptMode ≡ modeHead v (Carried model a) s
+  mode-im h = rw (eq-eqb (at s 29 % 4) 3 h)
+
+  module _ (h : at s 29 % 4 ≡ 3 → ⊥) where
+    pub mode-1 : v ≡ V1 → Header V1 model a ≡ modeHead v (Carried model a) s
+    mode-1 e = rw (e, ne-eqb (at s 29 % 4) 3 h)
+
+    pub mode-2 : v ≡ V2 → Header V2 model a ≡ modeHead v (Carried model a) s
+    mode-2 e = rw (e, ne-eqb (at s 29 % 4) 3 h)
+
+    pub mode-3 : (r : Head) → v ≡ V3 → r ≡ clockHead V3 model a s → r ≡ modeHead v (Carried model a) s
+    mode-3 r e q = rw (e, ne-eqb (at s 29 % 4) 3 h) q
+
+-- the later versions
+module _ (v : Version) (s : List ℕ) (l : ℕ) (el : l ≡ headerLength v) where
+  pub later-short : length s < l → Refused FileShort ≡ laterHead (Is v) s
+  later-short h = rw (← el, lt-ltb (length s) l h)
+
+  module _ (f : Mode) (h : l ≤ length s) (ef : f ≡ modeOf v (at s 34)) where
+    pub later-mode : f ≡ NotCarried → Refused ModeNotCarried ≡ laterHead (Is v) s
+    later-mode e = rw (← el, le-ltb (length s) l h, ← ef, e)
+
+    pub later-good : (model : Model) (a : Attachment) (r : Head) → f ≡ Carried model a → r ≡ modeHead v (Carried model a) s → r ≡ laterHead (Is v) s
+    later-good model a r e q = rw (← el, le-ltb (length s) l h, ← ef, e) q
+
+-- the whole
+module _ (s : List ℕ) where
+  pub head-30 : length s < 30 → Refused FileShort ≡ headOf s
+  unfolding headOf
+  head-30 h = rw (lt-ltb (length s) 30 h)
+
+  module _ (h : 30 ≤ length s) (w : ℕ) (ew : w ≡ wordAt s 6) where
+    pub head-v1 : (r : Head) → (w ≡ 0 → ⊥) → r ≡ firstHead s → r ≡ headOf s
+    unfolding headOf
+    head-v1 r z q = rw (le-ltb (length s) 30 h, ← ew, ne-eqb w 0 z) q
+
+    pub head-32 : w ≡ 0 → length s < 32 → Refused FileShort ≡ headOf s
+    unfolding headOf
+    head-32 z k = rw (le-ltb (length s) 30 h, ← ew, eq-eqb w 0 z, lt-ltb (length s) 32 k)
+
+    module _ (z : w ≡ 0) (k : 32 ≤ length s) (n : ℕ) (f : Known) (en : n ≡ wordAt s 30) (ef : f ≡ versionOf n) where
+      opened : laterHead f s ≡ headOf s
+      unfolding headOf
+      opened = rw (le-ltb (length s) 30 h, ← ew, eq-eqb w 0 z, le-ltb (length s) 32 k, ← en, ← ef)
+
+      pub head-3 : f ≡ Unknown → Refused UnknownVersion ≡ headOf s
+      head-3 e = ap (λ (x : Known). laterHead x s) (sym e) ∙ opened
+
+      pub head-later : (v : Version) (r : Head) → f ≡ Is v → r ≡ laterHead (Is v) s → r ≡ headOf s
+      head-later v r e q = q ∙ ap (λ (x : Known). laterHead x s) (sym e) ∙ opened
+
+-- a version that the word names has 55 bytes or more
+pub later-long : (n : ℕ) (f : Known) (v : Version) → f ≡ versionOf n → f ≡ Is v → 55 ≤ headerLength v
+later-long n f v e q = go (eqb n 23) (eqb n 54) (sym q ∙ e)
+  where
+    go : (x y : Bool) → Is v ≡ choose x (Is V2) (choose y (Is V3) Unknown) → 55 ≤ headerLength v
+    go true y p = let w : v ≡ V2 = cc in rw w (omega arith)
+    go false true p = let w : v ≡ V3 = cc in rw w (omega arith)
+    go false false p = let w : _≡_ {A = ℕ} 0 1 = cc in absurd (omega arith)

@@ -1,0 +1,41 @@
+use Rattle.header.proofs.HeadSteps.{clock-low, clock-high, clock-60, clock-good}
+use borrow.Author.Needs.{needs}
+use Rattle.header.proofs.clock_head.Statement.{statement}
+use Rattle.header.proofs.clock_head.Tie as tie
+
+quarter-of-requires : tie.Need-quarter-of-requires
+quarter-of-requires c κs = search needs
+
+word-requires : tie.Need-word-requires
+word-requires c κs = search needs
+
+returns : tie.Need-returns
+returns c = search clock-low
+
+shared-slice-read-if2 : tie.Need-shared-slice-read-if2
+shared-slice-read-if2 c = search needs
+
+returns-2 : tie.Need-returns-2
+returns-2 c = search clock-high
+
+shared-slice-read-if3 : tie.Need-shared-slice-read-if3
+shared-slice-read-if3 c = search needs
+
+returns-3 : tie.Need-returns-3
+returns-3 c = search clock-60
+
+returns-4 : tie.Need-returns-4
+returns-4 c = search clock-good
+
+pub clock-head-spec : {M : Type 1} → statement M
+clock-head-spec =
+    tie.close
+    (tie.spec
+    quarter-of-requires
+    word-requires
+    returns
+    shared-slice-read-if2
+    returns-2
+    shared-slice-read-if3
+    returns-3
+    returns-4)

@@ -1,0 +1,14 @@
+-- What reading a machine off a header asks of the slice.
+use Prim.Native.Nat.{ℕ, _≤_}
+use mathlib.Core.Path.{_≡_}
+use mathlib.Core.List.{List}
+use lib.ListN.{length}
+use Rattle.spectrum.specs.declared.Model.{Model}
+use Rattle.spectrum.specs.declared.Model.the-variants.{K128}
+use Rattle.header.specs.declared.Version.{Version}
+use Rattle.header.specs.Reading.{headerLength}
+
+-- the header is there; a 128K machine has the later versions' bytes too
+pub record Readable (version : Version) (model : Model) (s : List ℕ) : Type 0 where
+  pub long : headerLength version ≤ length s
+  pub later : model ≡ K128 → 55 ≤ length s

@@ -1,0 +1,292 @@
+// The header of a .Z80 file: what it says of v1, v2 and v3, and its refusals. The machine is read off it in
+// reading.rt, and the 86 bytes of v3 are written in writing.rt.
+pub mod reading;
+pub mod writing;
+
+use spectrum::Attachment;
+use spectrum::Machine;
+use spectrum::Model;
+use spectrum::Refusal;
+ghost use Prim.Native.Nat.{ℕ, _+_, _*_, _/_, _%_, _<_, _≤_};
+ghost use mathlib.Core.Path.{_≡_};
+ghost use mathlib.Core.List.{_++_};
+ghost use lib.ListN.{length, getD, take, drop};
+ghost use Rattle.slices.specs.Put.{put};
+ghost use Rattle.slices.specs.Same.{same};
+ghost use Rattle.spectrum.specs.declared.Model.the-variants.{K128};
+ghost use Rattle.spectrum.specs.Clock.{quarter};
+ghost use Rattle.header.specs.Bytes.{at, wordAt, bitAt, bitOf, byte12Of};
+ghost use Rattle.header.specs.Reading.{headerLength, pcAt, pairsBefore, pairsOf, videoOf, switchesOf, carried, soundOf, afterV1, framePosition, side59Of, noSide, sideOf, machineOf};
+ghost use Rattle.header.specs.Writing.{registerBytes, videoBits, byte29, switchBytes, modeByte, portBytes, counterBytes, headerOf};
+ghost use Rattle.header.specs.Heads.{notTaken, versionOf, mode2, mode3, modeOf, clockHead, modeHead, laterHead, firstHead, headOf, takenAs, takenOf};
+
+pub enum Version {
+    V1,
+    V2,
+    V3,
+}
+
+pub enum Known {
+    Is(Version),
+    Unknown,
+}
+
+pub enum Mode {
+    Carried(Model, Attachment),
+    NotCarried,
+}
+
+// A file's header: a refusal, or what decides how the rest is read.
+pub enum Head {
+    Refused(Refusal),
+    Header {
+        version: Version,
+        model: Model,
+        attachment: Attachment,
+    },
+}
+
+// A machine from 86 bytes; where they are none that the writer makes, the blank machine.
+pub struct Taken {
+    pub canonical: bool,
+    pub machine: Machine,
+}
+
+pub fn word_of(low: u8, high: u8) -> u16
+    ensures { λ r. ⌜ r ≡ low + 256 * high ⌝ }
+{
+    low as u16 + 256 * (high as u16)
+}
+
+pub fn word(s: &[u8], place: usize) -> u16
+    requires { ⌜ place + 1 < length (now s) ⌝ }
+    ensures { λ r. ⌜ r ≡ wordAt (now (s .entry)) place ⌝ }
+{
+    word_of(s[place], s[place + 1])
+}
+
+// Byte 12, where 255 counts as 1.
+pub fn byte12(s: &[u8]) -> u8
+    requires { ⌜ 12 < length (now s) ⌝ }
+    ensures { λ r. ⌜ r ≡ byte12Of (now (s .entry)) ⌝ }
+{
+    let b = s[12];
+    if b == 255 {
+        return 1;
+    }
+    b
+}
+
+fn header_length(version: Version) -> usize
+    ensures { λ r. ⌜ r ≡ headerLength version ⌝ }
+{
+    match version {
+        Version::V1 => 30,
+        Version::V2 => 55,
+        Version::V3 => 86,
+    }
+}
+
+fn version_of(n: u16) -> Known
+    ensures { λ r. ⌜ r ≡ versionOf n ⌝ }
+{
+    match n {
+        23 => Known::Is(Version::V2),
+        54 => Known::Is(Version::V3),
+        _ => Known::Unknown,
+    }
+}
+
+fn mode_v2(hardware: u8) -> Mode
+    ensures { λ r. ⌜ r ≡ mode2 hardware ⌝ }
+{
+    match hardware {
+        0 => Mode::Carried(Model::K48, Attachment::Nothing),
+        1 => Mode::Carried(Model::K48, Attachment::InterfaceI),
+        3 => Mode::Carried(Model::K128, Attachment::Nothing),
+        4 => Mode::Carried(Model::K128, Attachment::InterfaceI),
+        _ => Mode::NotCarried,
+    }
+}
+
+fn mode_v3(hardware: u8) -> Mode
+    ensures { λ r. ⌜ r ≡ mode3 hardware ⌝ }
+{
+    match hardware {
+        0 => Mode::Carried(Model::K48, Attachment::Nothing),
+        1 => Mode::Carried(Model::K48, Attachment::InterfaceI),
+        3 => Mode::Carried(Model::K48, Attachment::Mgt),
+        4 => Mode::Carried(Model::K128, Attachment::Nothing),
+        5 => Mode::Carried(Model::K128, Attachment::InterfaceI),
+        6 => Mode::Carried(Model::K128, Attachment::Mgt),
+        _ => Mode::NotCarried,
+    }
+}
+
+fn mode_of(version: Version, hardware: u8) -> Mode
+    ensures { λ r. ⌜ r ≡ modeOf version hardware ⌝ }
+{
+    match version {
+        Version::V1 => Mode::Carried(Model::K48, Attachment::Nothing),
+        Version::V2 => mode_v2(hardware),
+        Version::V3 => mode_v3(hardware),
+    }
+}
+
+fn quarter_of(model: Model) -> u16
+    ensures { λ r. ⌜ r ≡ quarter model ⌝ }
+{
+    match model {
+        Model::K48 => 17472,
+        Model::K128 => 17727,
+    }
+}
+
+// What the header of a file says, or why it is refused.
+pub fn read_head(file: &[u8]) -> Head
+    ensures { λ r. ⌜ r ≡ headOf (now (file .entry)) ⌝ }
+{
+    if file.len() < 30 {
+        return Head::Refused(Refusal::FileShort);
+    }
+    if word(file, 6) != 0 {
+        return first_head(file);
+    }
+    if file.len() < 32 {
+        return Head::Refused(Refusal::FileShort);
+    }
+    let known = version_of(word(file, 30));
+    match known {
+        Known::Unknown => Head::Refused(Refusal::UnknownVersion),
+        Known::Is(version) => later_head(file, version),
+    }
+}
+
+fn first_head(file: &[u8]) -> Head
+    requires { ⌜ 30 ≤ length (now file) ⌝ }
+    ensures { λ r. ⌜ r ≡ firstHead (now (file .entry)) ⌝ }
+{
+    let b = byte12(file);
+    if b / 16 % 2 == 1 {
+        return Head::Refused(Refusal::ModeNotCarried);
+    }
+    if file[29] % 4 == 3 {
+        return Head::Refused(Refusal::InterruptMode);
+    }
+    Head::Header {
+        version: Version::V1,
+        model: Model::K48,
+        attachment: Attachment::Nothing,
+    }
+}
+
+fn later_head(file: &[u8], version: Version) -> Head
+    requires { ⌜ 55 ≤ headerLength version ⌝ }
+    ensures { λ r. ⌜ r ≡ laterHead (Known.Is version) (now (file .entry)) ⌝ }
+{
+    if file.len() < header_length(version) {
+        return Head::Refused(Refusal::FileShort);
+    }
+    let found = mode_of(version, file[34]);
+    match found {
+        Mode::NotCarried => Head::Refused(Refusal::ModeNotCarried),
+        Mode::Carried(model, attachment) => mode_head(file, version, model, attachment),
+    }
+}
+
+fn mode_head(file: &[u8], version: Version, model: Model, attachment: Attachment) -> Head
+    requires { ⌜ headerLength version ≤ length (now file) ⌝ }
+    ensures { λ r. ⌜ r ≡ modeHead version (Mode.Carried model attachment) (now (file .entry)) ⌝ }
+{
+    if file[29] % 4 == 3 {
+        return Head::Refused(Refusal::InterruptMode);
+    }
+    match version {
+        Version::V1 => Head::Header {
+            version: Version::V1,
+            model,
+            attachment,
+        },
+        Version::V2 => Head::Header {
+            version: Version::V2,
+            model,
+            attachment,
+        },
+        Version::V3 => clock_head(file, model, attachment),
+    }
+}
+
+fn clock_head(file: &[u8], model: Model, attachment: Attachment) -> Head
+    requires { ⌜ 86 ≤ length (now file) ⌝ }
+    ensures { λ r. ⌜ r ≡ clockHead (Version.V3) model attachment (now (file .entry)) ⌝ }
+{
+    if quarter_of(model) <= word(file, 55) {
+        return Head::Refused(Refusal::CounterRange);
+    }
+    if 3 < file[57] {
+        return Head::Refused(Refusal::CounterRange);
+    }
+    if file[60] != 0 {
+        return Head::Refused(Refusal::Byte60);
+    }
+    Head::Header {
+        version: Version::V3,
+        model,
+        attachment,
+    }
+}
+
+// The machine whose header these bytes are; the blank machine where they are none that the writer makes.
+pub fn take_header(s: &[u8]) -> Taken
+    ensures { λ r. ⌜ r ≡ takenOf (now (s .entry)) ⌝ }
+{
+    if s.len() != 86 {
+        return not_taken();
+    }
+    let found = mode_v3(s[34]);
+    match found {
+        Mode::NotCarried => not_taken(),
+        Mode::Carried(model, attachment) => take_as(s, model, attachment),
+    }
+}
+
+fn take_as(s: &[u8], model: Model, attachment: Attachment) -> Taken
+    requires { ⌜ length (now s) ≡ 86 ⌝ }
+    ensures { λ r. ⌜ r ≡ takenAs (machineOf Version.V3 model attachment (now (s .entry))) (now (s .entry)) ⌝ }
+{
+    let m = reading::read_machine(s, Version::V3, model, attachment);
+    if m.valid() {
+        if is_header(m, s) {
+            return Taken {
+                canonical: true,
+                machine: m,
+            };
+        }
+        return not_taken();
+    }
+    not_taken()
+}
+
+fn not_taken() -> Taken
+    ensures { λ r. ⌜ r ≡ notTaken ⌝ }
+{
+    Taken {
+        canonical: false,
+        machine: Machine::blank(),
+    }
+}
+
+// Whether the bytes are the machine's header.
+fn is_header(m: Machine, s: &[u8]) -> bool
+    ensures { λ r. ⌜ r ≡ same (now (s .entry)) (headerOf m) ⌝ }
+{
+    let mut h = [0u8; 86];
+    writing::write_header(m, &mut h);
+    same_bytes(s, &h)
+}
+
+fn same_bytes(s: &[u8], h: &[u8]) -> bool
+    ensures { λ r. ⌜ r ≡ same (now (s .entry)) (now (h .entry)) ⌝ }
+{
+    check::same(s, h)
+}

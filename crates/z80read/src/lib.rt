@@ -1,0 +1,91 @@
+// Reading a .Z80 file, v1, v2 or v3, into a machine and a lent area of 131,072 bytes.
+use header::Head;
+use header::Version;
+use spectrum::Answer;
+use spectrum::Attachment;
+use spectrum::Machine;
+use spectrum::Model;
+use spectrum::Refusal;
+ghost use Prim.Native.Nat.{_≤_};
+ghost use mathlib.Core.Path.{_≡_};
+ghost use lib.ListN.{length};
+ghost use Rattle.header.specs.Reading.{headerLength, machineOf};
+ghost use Rattle.header.specs.Inner.{Readable};
+ghost use Rattle.blocks.specs.Inner.{Tells};
+ghost use Rattle.z80read.specs.Read.{memoryInto, refusedOpened, outcomeOf, readOf, Leaves, Reads};
+
+// What reading gives beside the area: the answer, and the machine.
+pub struct Opened {
+    pub answer: Answer,
+    pub machine: Machine,
+}
+
+// The file read into the area. Refused, the machine is blank and the area all zero, whatever its length.
+pub fn read(file: &[u8], area: &mut [u8]) -> Opened
+    ensures { λ r. ⌜ Reads (readOf (now (file .entry)) (length (now (area .entry)))) r (now (area .exit)) ⌝ }
+{
+    slices::fill(area, 0);
+    if area.len() != 131072 {
+        return refused(Refusal::AreaLength);
+    }
+    let head = header::read_head(file);
+    match head {
+        Head::Refused(why) => return refused(why),
+        Head::Header {
+            version,
+            model,
+            attachment,
+        } => return read_on(file, version, model, attachment, area),
+    }
+}
+
+// The memory and the machine, after a header that is accepted.
+fn read_on(
+    file: &[u8],
+    version: Version,
+    model: Model,
+    attachment: Attachment,
+    area: &mut [u8],
+) -> Opened
+    requires { ⌜ (Readable version model (now file)) × (length (now area) ≡ 131072) ⌝ }
+    ensures { λ r. ⌜ Leaves (outcomeOf (memoryInto version model (now (area .entry)) (now (file .entry))) (machineOf version model attachment (now (file .entry))) (length (now (area .entry)))) r (now (area .exit)) ⌝ }
+{
+    let answer = read_memory(file, version, model, area);
+    match answer {
+        Answer::Refused(why) => {
+            slices::fill(area, 0);
+            return refused(why);
+        }
+        Answer::Accepted => {
+            let machine = header::reading::read_machine(file, version, model, attachment);
+            return Opened {
+                answer: Answer::Accepted,
+                machine: machine,
+            };
+        }
+    }
+}
+
+// What follows the header, into the area. Refused, the area is open.
+fn read_memory(file: &[u8], version: Version, model: Model, area: &mut [u8]) -> Answer
+    requires { ⌜ (headerLength version ≤ length (now file)) × (length (now area) ≡ 131072) ⌝ }
+    ensures { λ r. ⌜ Tells (memoryInto version model (now (area .entry)) (now (file .entry))) r (now (area .exit)) ⌝ }
+{
+    match version {
+        Version::V1 => {
+            let b = header::byte12(file);
+            return blocks::read_body(file, 30, b / 32 % 2 == 1, area);
+        }
+        Version::V2 => return blocks::read_blocks(file, 55, model, area),
+        Version::V3 => return blocks::read_blocks(file, 86, model, area),
+    }
+}
+
+fn refused(why: Refusal) -> Opened
+    ensures { λ r. ⌜ r ≡ refusedOpened why ⌝ }
+{
+    Opened {
+        answer: Answer::Refused(why),
+        machine: Machine::blank(),
+    }
+}
