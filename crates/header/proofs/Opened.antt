@@ -27,7 +27,7 @@ use Rattle.header.specs.declared.Mode.the-variants.{Carried, NotCarried}
 use Rattle.header.specs.declared.Head.{Head}
 use Rattle.header.specs.declared.Head.the-variants.{Refused, Header}
 use Rattle.header.specs.Bytes.{at, wordAt, bitAt, bitOf, byte12Of}
-use Rattle.header.specs.Reading.{switchesOf, framePosition, machineOf}
+use Rattle.header.specs.Reading.{headerLength, switchesOf, framePosition, machineOf}
 use Rattle.header.specs.Writing.{videoBits, modeByte, headerOf}
 use Rattle.header.specs.Heads.{refuse, versionOf, mode3, modeOf, clockHead, modeHead, laterHead, firstHead, headOf}
 use Rattle.header.specs.Inner.{Readable}
@@ -39,6 +39,7 @@ use Rattle.header.proofs.Back.{im-back, low-back, high-back, zero-back}
 pub record Opens (s : List ℕ) (v : Version) (model : Model) : Type 0 where
   pub im : at s 29 % 4 ≡ 3 → ⊥
   pub readable : Readable v model s
+  pub first : v ≡ V1 → model ≡ K48
 
 abbrev Tells : List ℕ → Head → Type 0
 Tells s (Refused why) = Unit {0}
@@ -51,32 +52,37 @@ keeps s false why h f = f refl
 not-128 : K48 ≡ K128 → ⊥
 not-128 e = let z : _≡_ {A = ℕ} 0 1 = cc in omega arith
 
+not-v1 : (v : Version) → 55 ≤ headerLength v → v ≡ V1 → ⊥
+not-v1 v h e = let k : 55 ≤ headerLength V1 = rw e at h in omega arith
+
 first-tells : (s : List ℕ) → 30 ≤ length s → Tells s (firstHead s)
 first-tells s h =
     keeps s (bitAt (byte12Of s) 16) _ _ (λ _. keeps s (eqb (at s 29 % 4) 3) _ _ (λ e.
-    record { im = eqb-false _ _ e; readable = record { long = h; later = λ q. absurd (not-128 q) } }))
+    record { im = eqb-false _ _ e; readable = record { long = h; later = λ q. absurd (not-128 q) }; first = λ _. refl }))
 
-clock-tells : (v : Version) (model : Model) (a : Attachment) (s : List ℕ) → (at s 29 % 4 ≡ 3 → ⊥) → Readable v model s → Tells s (clockHead v model a s)
-clock-tells V1 model a s i r = record { im = i; readable = r }
-clock-tells V2 model a s i r = record { im = i; readable = r }
-clock-tells V3 model a s i r =
+clock-tells : (v : Version) (model : Model) (a : Attachment) (s : List ℕ) → (at s 29 % 4 ≡ 3 → ⊥) → Readable v model s → (v ≡ V1 → model ≡ K48)
+    → Tells s (clockHead v model a s)
+clock-tells V1 model a s i r f = record { im = i; readable = r; first = f }
+clock-tells V2 model a s i r f = record { im = i; readable = r; first = f }
+clock-tells V3 model a s i r f =
     keeps s (leb (quarter model) (wordAt s 55)) _ _ (λ _. keeps s (ltb 3 (at s 57)) _ _ (λ _. keeps s (not (eqb (at s 60) 0)) _ _ (λ _.
-    record { im = i; readable = r })))
+    record { im = i; readable = r; first = f })))
 
-mode-tells : (v : Version) (f : Mode) (s : List ℕ) → ((model : Model) (a : Attachment) → f ≡ Carried model a → Readable v model s) → Tells s (modeHead v f s)
+mode-tells : (v : Version) (f : Mode) (s : List ℕ) → ((model : Model) (a : Attachment) → f ≡ Carried model a → (Readable v model s) × (v ≡ V1 → model ≡ K48)) → Tells s (modeHead v f s)
 mode-tells v NotCarried s r = tt
-mode-tells v (Carried model a) s r = keeps s (eqb (at s 29 % 4) 3) _ _ (λ e. clock-tells v model a s (eqb-false _ _ e) (r model a refl))
+mode-tells v (Carried model a) s r = keeps s (eqb (at s 29 % 4) 3) _ _ (λ e. clock-tells v model a s (eqb-false _ _ e) (r model a refl .0) (r model a refl .1))
 
 later-tells : (f : Known) (s : List ℕ) → Tells s (laterHead f s)
 later-tells Unknown s = tt
 later-tells (Is V1) s =
     keeps s (ltb (length s) 30) _ _ (λ e. mode-tells V1 (Carried K48 Nothing) s (λ model a q.
-    record { long = ltb-false _ _ e; later = λ k. (let z : K48 ≡ model = cc in absurd (not-128 (z ∙ k))) }))
+    (let z : K48 ≡ model = cc in (record { long = ltb-false _ _ e; later = λ k. absurd (not-128 (z ∙ k)) }, λ _. sym z))))
 later-tells (Is V2) s =
-    keeps s (ltb (length s) 55) _ _ (λ e. mode-tells V2 (modeOf V2 (at s 34)) s (λ model a q. record { long = ltb-false _ _ e; later = λ _. ltb-false _ _ e }))
+    keeps s (ltb (length s) 55) _ _ (λ e. mode-tells V2 (modeOf V2 (at s 34)) s (λ model a q.
+    (record { long = ltb-false _ _ e; later = λ _. ltb-false _ _ e }, λ k. absurd (not-v1 V2 (omega arith) k))))
 later-tells (Is V3) s =
     keeps s (ltb (length s) 86) _ _ (λ e. mode-tells V3 (modeOf V3 (at s 34)) s (λ model a q.
-    (let l : 86 ≤ length s = ltb-false _ _ e in record { long = l; later = λ _. omega arith })))
+    (let l : 86 ≤ length s = ltb-false _ _ e in (record { long = l; later = λ _. omega arith }, λ k. absurd (not-v1 V3 (omega arith) k)))))
 
 head-tells : (s : List ℕ) → Tells s (headOf s)
 unfolding headOf

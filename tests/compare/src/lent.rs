@@ -16,14 +16,28 @@ fn dirty(fill: u64, at: usize) -> u8 {
     mixed.wrapping_add(at as u8) | 1 << (fill % 8)
 }
 
+/// The dirty bytes come again after this many.
+const PERIOD: usize = 256;
+
 impl Lent {
     /// A part of `length` bytes, dirty in a way given by `fill`.
     pub fn new(length: usize, fill: u64) -> Lent {
-        let buffer = (0..length + 2 * GUARD).map(|at| dirty(fill, at));
-        Lent {
-            buffer: buffer.collect(),
+        let mut lent = Lent {
+            buffer: Vec::new(),
             length,
             fill,
+        };
+        lent.renew(length, fill);
+        lent
+    }
+
+    /// The same room as a new part of `length` bytes.
+    pub fn renew(&mut self, length: usize, fill: u64) {
+        let pattern: [u8; PERIOD] = std::array::from_fn(|at| dirty(fill, at));
+        (self.length, self.fill) = (length, fill);
+        self.buffer.resize(length + 2 * GUARD, 0);
+        for part in self.buffer.chunks_mut(PERIOD) {
+            part.copy_from_slice(&pattern[..part.len()]);
         }
     }
 

@@ -2,9 +2,6 @@
 
 use std::process::ExitCode;
 
-/// Inputs that a run must at least compare.
-const LEAST_INPUTS: u64 = 1_000_000;
-
 /// The inputs of one group so far; the first differing case ends the group.
 #[derive(Default)]
 pub struct Group {
@@ -13,14 +10,24 @@ pub struct Group {
 
 pub type Outcome = Result<(), String>;
 
-#[derive(Default)]
 pub struct Report {
+    least: u64,
     inputs: u64,
     passed: u32,
     failed: u32,
 }
 
 impl Report {
+    /// The report of a run that must compare at least this many inputs.
+    pub fn new(least: u64) -> Report {
+        Report {
+            least,
+            inputs: 0,
+            passed: 0,
+            failed: 0,
+        }
+    }
+
     /// Runs a group and prints its line. A group without inputs has failed.
     pub fn group(&mut self, name: &str, run: impl FnOnce(&mut Group) -> Outcome) {
         let mut group = Group::default();
@@ -52,7 +59,7 @@ impl Report {
 
     /// Prints the total and the last line.
     pub fn finish(self) -> ExitCode {
-        let enough = self.inputs >= LEAST_INPUTS;
+        let enough = self.inputs >= self.least;
         let note = if enough { "" } else { ", too few" };
         println!("total {} inputs{note}", self.inputs);
         println!("{} passed, {} failed", self.passed, self.failed);

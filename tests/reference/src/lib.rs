@@ -2,5 +2,9 @@
 //! library under test, and the data they are compared and timed on.
 #![forbid(unsafe_code)]
 
+pub mod machine;
 pub mod memory;
 pub mod packing;
+pub mod refusal;
+pub mod samples;
+pub mod z80;

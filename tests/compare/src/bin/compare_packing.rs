@@ -13,7 +13,7 @@ use reference::memory::Rng;
 use std::process::ExitCode;
 
 fn main() -> ExitCode {
-    let mut report = Report::default();
+    let mut report = Report::new(1_000_000);
     let check = &mut Checker::new(1);
     let rng = &mut Rng::new(2);
     report.group("examples P1 to P11", |g| general_groups::examples(g, check));

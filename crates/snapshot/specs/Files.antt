@@ -1,0 +1,63 @@
+-- Reading and writing over bytes: "there the machine crosses as the 86-byte v3 header that our writer makes for it".
+use Prim.Native.Nat.{ℕ}
+use mathlib.Core.Path.{_≡_}
+use mathlib.Core.Bool.{Bool, true, false}
+use mathlib.Core.List.{List}
+use lib.ListN.{length, replicate}
+use lib.Dec.{eqb}
+use Rattle.slices.specs.Choose.{choose}
+use Rattle.spectrum.specs.declared.Refusal.the-variants.{InvalidMachine}
+use Rattle.spectrum.specs.Numbers.{numberOf, refusalNumber}
+use Rattle.header.specs.declared.Taken.{Taken}
+use Rattle.header.specs.Writing.{headerOf}
+use Rattle.header.specs.Heads.{takenOf}
+use Rattle.z80read.specs.Read as R
+use Rattle.z80write.specs.Written as W
+
+-- "answers 20, before all else, if the header buffer is not 86 bytes"
+abbrev pub badHeader : ℕ
+badHeader = refusalNumber InvalidMachine
+
+-- what reading leaves: the number, the area and the header
+pub record ReadBytes : Type 0 where
+  pub answer : ℕ
+  pub area : List ℕ
+  pub header : List ℕ
+
+-- "A refused read leaves the blank machine's header there (zeros at another length)"
+abbrev pub readBytes : R.Outcome → ReadBytes
+readBytes o = record { answer = numberOf (o .answer); area = o .memory; header = headerOf (o .machine) }
+
+-- the file read into an area of n bytes and a header of k bytes
+unfoldable pub readOfBytes : List ℕ → ℕ → ℕ → ReadBytes
+readOfBytes file n k =
+    choose (eqb k 86) (readBytes (R.readOf file n)) (record { answer = badHeader; area = replicate n 0; header = replicate k 0 })
+
+-- what writing leaves: the number, the length and the output
+pub record WriteBytes : Type 0 where
+  pub answer : ℕ
+  pub size : ℕ
+  pub out : List ℕ
+
+abbrev pub writeBytes : W.Outcome → WriteBytes
+writeBytes o = record { answer = numberOf (o .answer); size = o .size; out = o .out }
+
+-- "writing also if its bytes are none that our writer makes"
+abbrev pub writeTaken : Taken → List ℕ → ℕ → WriteBytes
+writeTaken t area n =
+    choose (t .canonical) (writeBytes (W.writtenOf (t .machine) area n)) (record { answer = badHeader; size = 0; out = replicate n 0 })
+
+-- the file of header and area into an output of n bytes
+unfoldable pub writeOfBytes : List ℕ → List ℕ → ℕ → WriteBytes
+writeOfBytes header area n = writeTaken (takenOf header) area n
+
+-- the promises: every number and byte is the definition's
+pub record ReadsBytes (o : ReadBytes) (r : ℕ) (a h : List ℕ) : Type 0 where
+  pub answer : r ≡ o .answer
+  pub area : a ≡ o .area
+  pub header : h ≡ o .header
+
+pub record WritesBytes (o : WriteBytes) (r n : ℕ) (d : List ℕ) : Type 0 where
+  pub answer : r ≡ o .answer
+  pub size : n ≡ o .size
+  pub out : d ≡ o .out

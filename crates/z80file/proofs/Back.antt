@@ -1,0 +1,213 @@
+-- Reading the blocks that the writer lays down gives the area back. Of the packing crate only `unpacked-packed` is used.
+use Prim.Native.Nat.{ℕ, zero, suc, _+_, _-_, _*_, _/_, _%_, _<_, _≤_}
+use mathlib.Core.Path.{_≡_, refl, sym, ap, subst, _∙_}
+use mathlib.Core.Bool.{Bool, true, false}
+use mathlib.Core.List.{List, [], _∷_, _++_}
+use native.Mathlib.Omega.{arith}
+use borrow.Author.Tests.{le-ltb, ne-eqb, ltb-true, eqb-true, eqb-false}
+use lib.Dec.{eqb, ltb}
+use lib.ListN.{length, getD, set, take, drop, length-drop, length-take, length-append, length-set, getD-replicate}
+use lib.Seq.{getD-drop, getD-take, drop-drop, take-at, drop-at, getD-set-same, getD-set-other, ext-getD}
+use Rattle.slices.specs.Choose.{choose}
+use Rattle.slices.specs.Put.{put}
+use Rattle.slices.specs.Blank.{blank}
+use Rattle.slices.proofs.Puts.{length-put}
+use Rattle.packing.specs.Packed.{bytes, packed}
+use Rattle.packing.specs.Packed.Promise.{unpacked-packed}
+use Rattle.spectrum.specs.declared.Model.{Model}
+use Rattle.spectrum.specs.declared.Model.the-variants.{K48, K128}
+use Rattle.spectrum.specs.declared.Refusal.the-variants.{BlockMissing}
+use Rattle.spectrum.specs.Pages.{ownership, owned, pageIn}
+use Rattle.blocks.specs.declared.Page.the-variants.{At}
+use Rattle.blocks.specs.Blocks.{pageOf, allThere, Block, brought, wordOf, sizeOf, contents, onPage, blockOf, Reading, whole, refusal, andThen, finished, blocks, noneSeen, blocksInto}
+use Rattle.blocks.proofs.Turns.{turn, ended}
+use Rattle.z80write.specs.declared.Slot.{Slot}
+use Rattle.z80write.specs.Written.{blockFor, slots, laid}
+use Rattle.z80file.specs.Clean.{Clean}
+use Rattle.z80file.proofs.Places.{put-in, put-elsewhere, blank-at, blank-long}
+
+-- the block at the front of a list that holds it whole
+front : (model : Model) (seen : List Bool) (s : List ℕ) (n size : ℕ) → wordOf s ≡ n → size ≡ sizeOf n → 3 + size ≤ length s
+    → blockOf model seen s ≡ onPage (pageOf model (getD s 2 0)) seen (contents (eqb n 65535) (take size (drop 3 s))) (drop (3 + size) s)
+unfolding blockOf
+front model seen s n size en es g =
+    rw (le-ltb (length s) 3 (omega arith), en, ← es, le-ltb (length s) (3 + size) g)
+
+-- head, data, rest: what they bring
+module _ (model : Model) (seen : List Bool) (number page : ℕ) (p rest : List ℕ) (f : pageOf model number ≡ At page) (u : getD seen page false ≡ false) (l : length p ≡ 16384) where
+  brings-of : (a b n size : ℕ) (d : List ℕ) → a + 256 * b ≡ n → size ≡ sizeOf n → length d ≡ size → contents (eqb n 65535) d ≡ bytes p
+      → blockOf model seen (a ∷ b ∷ number ∷ (d ++ rest)) ≡ brought page p rest
+  brings-of a b n size d en es ed ec =
+      let s = a ∷ b ∷ number ∷ (d ++ rest) in
+      front model seen s n size en es (omega (arith, length-append d rest))
+      ∙ rw (← drop-drop size 3 s, f, u, take-at d rest size ed, drop-at d rest size ed, ec, l)
+
+  one-block : blockOf model seen (blockFor number p ++ rest) ≡ brought page p rest
+  unfolding blockFor
+  one-block = go (ltb (length (packed p)) 16384) refl
+    where
+      go : (b : Bool) → ltb (length (packed p)) 16384 ≡ b
+          → blockOf model seen (choose b (length (packed p) % 256 ∷ length (packed p) / 256 ∷ number ∷ packed p) (255 ∷ 255 ∷ number ∷ p) ++ rest) ≡ brought page p rest
+      go true h =
+          let n = length (packed p) in
+          let small : n < 16384 = ltb-true n 16384 h in
+          let e : eqb n 65535 ≡ false = ne-eqb n 65535 (λ q. omega arith) in
+          brings-of (n % 256) (n / 256) n n (packed p) (omega arith) (rw e) refl (rw e (unpacked-packed p))
+      go false h = brings-of 255 255 65535 16384 p refl refl l refl
+
+-- where a page was seen the area is the target's, elsewhere it is still zero
+abbrev Agree : List ℕ → List Bool → List ℕ → Type 0
+Agree a seen t = (i : ℕ) → i < 131072 → getD a i 0 ≡ getD (choose (getD seen (i / 16384) false) t (blank 131072)) i 0
+
+page-long : (t : List ℕ) (page : ℕ) → length t ≡ 131072 → page < 8 → length (pageIn t page) ≡ 16384
+page-long t page l h = simp (length-take, length-drop) (omega arith)
+
+agree-more : (a t : List ℕ) (seen : List Bool) (page : ℕ) → length a ≡ 131072 → length t ≡ 131072 → length seen ≡ 8 → page < 8 → Agree a seen t
+    → Agree (put a (page * 16384) (pageIn t page)) (set seen page true) t
+agree-more a t seen page la lt ls h g i hi = go (eqb (i / 16384) page) refl
+  where
+    lp : length (pageIn t page) ≡ 16384
+    lp = page-long t page lt h
+
+    fits : page * 16384 + length (pageIn t page) ≤ length a
+    fits = omega (arith, lp)
+
+    go : (b : Bool) → eqb (i / 16384) page ≡ b
+        → getD (put a (page * 16384) (pageIn t page)) i 0 ≡ getD (choose (getD (set seen page true) (i / 16384) false) t (blank 131072)) i 0
+    go true e =
+        let q : i / 16384 ≡ page = eqb-true _ _ e in
+        let j : page * 16384 + i % 16384 ≡ i = omega arith in
+        let w : getD (set seen page true) page false ≡ true = getD-set-same seen page true false (omega arith) in
+        ap (λ (n : ℕ). getD (put a (page * 16384) (pageIn t page)) n 0) (sym j)
+        ∙ put-in a (pageIn t page) (page * 16384) fits (i % 16384) (omega (arith, lp))
+        ∙ getD-take 16384 (drop (page * 16384) t) (i % 16384) 0 (omega arith)
+        ∙ getD-drop (page * 16384) t (i % 16384) 0
+        ∙ ap (λ (n : ℕ). getD t n 0) j
+        ∙ rw (q, w)
+    go false e =
+        let q : i / 16384 ≡ page → ⊥ = eqb-false _ _ e in
+        put-elsewhere a (pageIn t page) page i lp (omega arith) q ∙ g i hi ∙ rw (getD-set-other seen page (i / 16384) true false q)
+
+-- the pages seen after a list of blocks, and that each is of this mode and new
+abbrev marked : List Bool → List Slot → List Bool
+marked seen [] = seen
+marked seen (x ∷ more) = marked (set seen (x .page) true) more
+
+abbrev Fresh : Model → List Bool → List Slot → Type 0
+Fresh model seen [] = Unit {0}
+Fresh model seen (x ∷ more) = (pageOf model (x .number) ≡ At (x .page)) × ((getD seen (x .page) false ≡ false) × ((x .page < 8) × Fresh model (set seen (x .page) true) more))
+
+record Reads (model : Model) (turns : ℕ) (seen : List Bool) (a s : List ℕ) (seen′ : List Bool) (t : List ℕ) : Type 0 where
+  last : List ℕ
+  reading : blocks model turns seen a s ≡ finished model seen′ last
+  long : length last ≡ 131072
+  agree : Agree last seen′ t
+
+block-long : (number : ℕ) (p : List ℕ) → 0 < length (blockFor number p)
+unfolding blockFor
+block-long number p = go (ltb (length (packed p)) 16384)
+  where
+    go : (b : Bool) → 0 < length (choose b (length (packed p) % 256 ∷ length (packed p) / 256 ∷ number ∷ packed p) (255 ∷ 255 ∷ number ∷ p))
+    go true = omega arith
+    go false = omega arith
+
+-- by induction over the blocks that are left
+reads : (model : Model) (t : List ℕ) → length t ≡ 131072 → (more : List Slot) (turns : ℕ) (seen : List Bool) (a : List ℕ)
+    → length (laid more t) ≤ turns → Fresh model seen more → length seen ≡ 8 → length a ≡ 131072 → Agree a seen t
+    → Reads model turns seen a (laid more t) (marked seen more) t
+unfolding laid
+reads model t lt [] turns seen a h f ls la g = record { last = a; reading = ended model turns seen a [] refl; long = la; agree = g }
+reads model t lt (x ∷ more) zero seen a h f ls la g =
+    absurd (omega (arith, length-append (blockFor (x .number) (pageIn t (x .page))) (laid more t), block-long (x .number) (pageIn t (x .page))))
+reads model t lt (x ∷ more) (suc turns) seen a h f ls la g =
+    let p = pageIn t (x .page) in
+    let b = blockFor (x .number) p in
+    let la2 = length-append b (laid more t) in
+    let lp : length p ≡ 16384 = page-long t (x .page) lt (f .1 .1 .0) in
+    let fits : x .page * 16384 + length p ≤ length a = omega (arith, lp, f .1 .1 .0) in
+    let r =
+    reads model t lt more turns (set seen (x .page) true) (put a (x .page * 16384) p)
+    (omega (arith, la2, block-long (x .number) p)) (f .1 .1 .1) (length-set seen (x .page) true ∙ ls)
+    (length-put a p (x .page * 16384) fits ∙ la)
+    (agree-more a t seen (x .page) la lt ls (f .1 .1 .0) g) in
+    record {
+      last = r .last;
+      reading =
+          turn model turns seen a (b ++ laid more t) (omega (arith, la2, block-long (x .number) p))
+          ∙ ap (λ (y : Block). andThen y (λ page xs rest. blocks model turns (set seen page true) (put a (page * 16384) xs) rest))
+          (one-block model seen (x .number) (x .page) p (laid more t) (f .0) (f .1 .0) lp)
+          ∙ r .reading;
+      long = r .long;
+      agree = r .agree;
+    }
+
+fresh : (model : Model) → Fresh model noneSeen (slots model)
+unfolding pageOf
+fresh K48 = (refl, (refl, (omega arith, (refl, (refl, (omega arith, (refl, (refl, (omega arith, tt)))))))))
+fresh K128 = (
+  refl,
+  (
+    refl,
+    (
+      omega arith,
+      (
+        refl,
+        (
+          refl,
+          (
+            omega arith,
+            (
+              refl,
+              (
+                refl,
+                (
+                  omega arith,
+                  (
+                    refl,
+                    (
+                      refl,
+                      (
+                        omega arith,
+                        (refl, (refl, (omega arith, (refl, (refl, (omega arith, (refl, (refl, (omega arith, (refl, (refl, (omega arith, tt)))))))))))),
+                      ),
+                    ),
+                  ),
+                ),
+              ),
+            ),
+          ),
+        ),
+      ),
+    ),
+  ),
+)
+
+all-owned : (model : Model) → marked noneSeen (slots model) ≡ ownership model
+all-owned K48 = refl
+all-owned K128 = refl
+
+there : (model : Model) → allThere model (ownership model) ≡ true
+unfolding allThere
+there K48 = refl
+there K128 = refl
+
+none-seen : (t : List ℕ) → Agree (blank 131072) noneSeen t
+none-seen t i h = rw (getD-replicate 8 (i / 16384) false false (omega arith))
+
+same-area : (model : Model) (t last : List ℕ) → Clean model t → length last ≡ 131072 → Agree last (ownership model) t → last ≡ t
+same-area model t last s l g = ext-getD 0 last t (l ∙ sym (s .long)) (λ i h. go i (omega arith) (owned model (i / 16384)) refl)
+  where
+    go : (i : ℕ) → i < 131072 → (b : Bool) → owned model (i / 16384) ≡ b → getD last i 0 ≡ getD t i 0
+    go i h true e = g i h ∙ rw e
+    go i h false e = g i h ∙ rw e (blank-at 131072 i h ∙ sym (s .clear i h e))
+
+-- the round trip of the blocks
+pub blocks-back : (model : Model) (area : List ℕ) → Clean model area → blocksInto model (blank 131072) (laid (slots model) area) ≡ whole area
+unfolding blocksInto
+blocks-back model area s =
+    let r = reads model area (s .long) (slots model) (length (laid (slots model) area)) noneSeen (blank 131072) (omega arith) (fresh model) refl (blank-long 131072) (none-seen area) in
+    let o = all-owned model in
+    let e : r .last ≡ area = same-area model area (r .last) s (r .long) (subst (λ (x : List Bool). Agree (r .last) x area) o (r .agree)) in
+    r .reading ∙ ap (λ (x : List Bool). finished model x (r .last)) o
+    ∙ ap (λ (b : Bool). choose b (whole (r .last)) (refusal BlockMissing)) (there model)
+    ∙ ap whole e

@@ -1,0 +1,40 @@
+-- Demand 2, both ways: what is written reads back, and what is read can be written.
+use Prim.Native.Nat.{ℕ, _≤_}
+use mathlib.Core.Path.{_≡_}
+use mathlib.Core.Bool.{true}
+use mathlib.Core.List.{List}
+use lib.ListN.{length, take}
+use Rattle.spectrum.specs.declared.Machine.{Machine}
+use Rattle.spectrum.specs.declared.Answer.the-variants.{Accepted}
+use Rattle.spectrum.specs.Valid.{validOf}
+use Rattle.z80read.specs.declared.Opened.{Opened}
+use Rattle.z80read.specs.Read.{readOf}
+use Rattle.z80write.specs.Written.{fileOf}
+use Rattle.z80file.specs.declared.Pair.{Pair}
+use Rattle.z80file.specs.declared.Rewritten.{Rewritten}
+use Rattle.z80file.specs.Clean.{Clean}
+
+-- what the round trip asks of a machine, its memory, the output's length and the second area's
+pub record Asks (m : Machine) (area : List ℕ) (n long : ℕ) : Type 0 where
+  pub valid : validOf m ≡ true
+  pub clean : Clean (m .model) area
+  pub room : length (fileOf m area) ≤ n
+  pub whole : long ≡ 131072
+
+-- "For a valid machine whose unused pages are zero, reading that file gives the machine and memory back": r is the answer of reading
+-- what was written of m and area, and back is what the read left
+pub record RoundTrip (m : Machine) (area : List ℕ) (r : Opened) (back : List ℕ) : Type 0 where
+  pub answer : r .answer ≡ Accepted
+  pub machine : r .machine ≡ m
+  pub memory : back ≡ area
+
+-- what an accepted read gave, written into out: it is accepted, and the file reads as the same machine and memory
+pub record Rewrites (r : Rewritten) (area out : List ℕ) : Type 0 where
+  pub written : r .written .answer ≡ Accepted
+  pub again : readOf (take (r .written .length) out) 131072 ≡ record { answer = Accepted; machine = r .opened .machine; memory = area }
+
+-- two reads of one file into areas of one length end alike, whatever stood in the areas
+pub record Alike (one other : List ℕ) (r : Pair) : Type 0 where
+  pub answer : r .one .answer ≡ r .other .answer
+  pub machine : r .one .machine ≡ r .other .machine
+  pub memory : one ≡ other

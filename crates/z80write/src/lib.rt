@@ -1,0 +1,180 @@
+// Writing the one v3 file of a machine and its memory: blocks are packed into the output itself, then the header.
+// Above packing and header, through their promises alone.
+use packing::Fit;
+use spectrum::Answer;
+use spectrum::Machine;
+use spectrum::Model;
+use spectrum::Refusal;
+ghost use Prim.Native.Nat.{_+_, _/_, _%_, _≤_, _<_, min};
+ghost use mathlib.Core.Path.{_≡_};
+ghost use mathlib.Core.List.{_∷_, []};
+ghost use lib.ListN.{length};
+ghost use Rattle.slices.specs.Put.{put};
+ghost use Rattle.spectrum.specs.declared.Model.the-variants.{K48, K128};
+ghost use Rattle.z80write.specs.Written.{blockFor, slots, laid, refusal, writtenOf, Writes};
+ghost use Rattle.z80write.specs.Inner.{PackedAt, Lays, SlotAt};
+
+// A block number and the RAM page that it stands for.
+pub struct Slot {
+    pub number: u8,
+    pub page: usize,
+}
+
+// The answer of writing, and the file's length.
+pub struct Written {
+    pub answer: Answer,
+    pub length: usize,
+}
+
+// The file of a machine and its memory into out; past its length out is zero. Refused, out is all zero.
+pub fn write(m: Machine, area: &[u8], out: &mut [u8]) -> Written
+    ensures { λ r. ⌜ Writes (writtenOf m (now (area .entry)) (length (now (out .entry)))) r (now (out .exit)) ⌝ }
+{
+    m.typed();
+    if m.valid() {
+        if area.len() != 131072 {
+            return refuse(out, Refusal::MemoryLength);
+        }
+        if out.len() < 86 {
+            return refuse(out, Refusal::OutputShort);
+        }
+        let model = m.model;
+        match lay(area, model, out, 86) {
+            Fit::Length(n) => {
+                header::writing::write_header(m, out);
+                slices::clear_from(out, n);
+                return Written {
+                    answer: Answer::Accepted,
+                    length: n,
+                };
+            }
+            Fit::TooShort => return refuse(out, Refusal::OutputShort),
+        }
+    }
+    refuse(out, Refusal::InvalidMachine)
+}
+
+fn refuse(out: &mut [u8], why: Refusal) -> Written
+    ensures { λ r. ⌜ Writes (refusal why (length (now (out .entry)))) r (now (out .exit)) ⌝ }
+{
+    slices::fill(out, 0);
+    Written {
+        answer: Answer::Refused(why),
+        length: 0,
+    }
+}
+
+// All blocks from `from` on, and where they end.
+fn lay(area: &[u8], model: Model, out: &mut [u8], from: usize) -> Fit
+    requires { ⌜ (length (now area) ≡ 131072) × (from ≤ length (now out)) ⌝ }
+    ensures { λ r. ⌜ Lays (laid (slots model) (now (area .entry))) (now (out .entry)) from r (now (out .exit)) ⌝ }
+{
+    let n = count(model);
+    let mut at = from;
+    let mut i = 0;
+    while i < n {
+        let slot = slot_at(model, i);
+        let base = slot.page * 16384;
+        let top = base + 16384;
+        match write_block(&area[base..top], slot.number, out, at) {
+            Fit::Length(e) => {
+                at = e;
+                i += 1;
+            }
+            Fit::TooShort => return Fit::TooShort,
+        }
+    }
+    Fit::Length(at)
+}
+
+// A page's block from `at` on, and where it ends: packed where that is shorter than 16,384 bytes, in one pass.
+fn write_block(page: &[u8], number: u8, out: &mut [u8], at: usize) -> Fit
+    requires { ⌜ (length (now page) ≡ 16384) × (at ≤ length (now out)) ⌝ }
+    ensures { λ r. ⌜ Lays (blockFor number (now (page .entry))) (now (out .entry)) at r (now (out .exit)) ⌝ }
+{
+    let room = out.len() - at;
+    if room < 3 {
+        return Fit::TooShort;
+    }
+    let start = at + 3;
+    let end = start + min_of(room - 3, 16383);
+    match pack_at(page, out, start, end) {
+        Fit::Length(n) => {
+            put_head(out, at, n, number);
+            return Fit::Length(start + n);
+        }
+        Fit::TooShort => {
+            if room - 3 < 16384 {
+                return Fit::TooShort;
+            }
+            put_head(out, at, 65535, number);
+            slices::put_at(out, start, page);
+            return Fit::Length(start + 16384);
+        }
+    }
+}
+
+// src packed into the output's own part from a to e.
+fn pack_at(src: &[u8], out: &mut [u8], a: usize, e: usize) -> Fit
+    requires { ⌜ (a ≤ e) × (e ≤ length (now out)) ⌝ }
+    ensures { λ r. ⌜ PackedAt (now (src .entry)) (now (out .entry)) a e r (now (out .exit)) ⌝ }
+{
+    packing::pack(src, &mut out[a..e])
+}
+
+// A block's head: the length's two bytes and the number.
+fn put_head(out: &mut [u8], at: usize, n: usize, number: u8)
+    requires { ⌜ (at + 3 ≤ length (now out)) × (n < 65536) ⌝ }
+    ensures { λ _. ⌜ now (out .exit) ≡ put (now (out .entry)) at (n % 256 ∷ n / 256 ∷ number ∷ []) ⌝ }
+{
+    out[at] = (n % 256) as u8;
+    out[at + 1] = (n / 256) as u8;
+    out[at + 2] = number;
+}
+
+// How many blocks a file has.
+fn count(model: Model) -> usize
+    ensures { λ r. ⌜ r ≡ length (slots model) ⌝ }
+{
+    match model {
+        Model::K48 => 3,
+        Model::K128 => 8,
+    }
+}
+
+fn slot_at(model: Model, i: usize) -> Slot
+    requires { ⌜ i < length (slots model) ⌝ }
+    ensures { λ r. ⌜ SlotAt model i r ⌝ }
+{
+    match model {
+        Model::K48 => slot_48(i),
+        Model::K128 => slot_128(i),
+    }
+}
+
+fn slot_48(i: usize) -> Slot
+    requires { ⌜ i < 3 ⌝ }
+    ensures { λ r. ⌜ SlotAt K48 i r ⌝ }
+{
+    match i {
+        0 => Slot { number: 4, page: 2 },
+        1 => Slot { number: 5, page: 0 },
+        _ => Slot { number: 8, page: 5 },
+    }
+}
+
+fn slot_128(i: usize) -> Slot
+    requires { ⌜ i < 8 ⌝ }
+    ensures { λ r. ⌜ SlotAt K128 i r ⌝ }
+{
+    Slot {
+        number: (i + 3) as u8,
+        page: i,
+    }
+}
+
+fn min_of(a: usize, b: usize) -> usize
+    ensures { λ r. ⌜ r ≡ min a b ⌝ }
+{
+    if a < b { a } else { b }
+}

@@ -1,0 +1,156 @@
+//! One call of the library, compared with the reference: answer, length and every byte.
+
+use crate::ffi_snapshot;
+use compare::lent::Lent;
+use compare::report::{hex, Group, Outcome};
+use reference::machine::HEADER;
+use reference::memory::{Rng, MEMORY};
+use reference::z80::{read_bytes, write_bytes, LONGEST_FILE};
+use std::hint::black_box;
+
+/// One more than the highest number of the two calls.
+const NUMBERS: usize = 23;
+
+/// Makes every lent part dirty before a call and counts the answers given.
+pub struct Checker {
+    fills: Rng,
+    area: Lent,
+    header: Lent,
+    out: Lent,
+    memory: Vec<u8>,
+    file: Vec<u8>,
+    pub reads: [u64; NUMBERS],
+    pub writes: [u64; NUMBERS],
+    pub longest: usize,
+}
+
+impl Checker {
+    pub fn new(seed: u64) -> Checker {
+        Checker {
+            fills: Rng::new(seed),
+            area: Lent::new(MEMORY, 0),
+            header: Lent::new(HEADER, 0),
+            out: Lent::new(LONGEST_FILE, 0),
+            memory: vec![0; MEMORY],
+            file: vec![0; LONGEST_FILE],
+            reads: [0; NUMBERS],
+            writes: [0; NUMBERS],
+            longest: 0,
+        }
+    }
+
+    /// Reads a file into buffers of the right length. An accepted one is written and read again.
+    pub fn read(&mut self, group: &mut Group, file: &[u8]) -> Result<u32, String> {
+        self.read_into(group, file, MEMORY, HEADER)
+    }
+
+    /// Reads a file into an area and a header of these lengths, and answers the number.
+    pub fn read_into(
+        &mut self,
+        group: &mut Group,
+        file: &[u8],
+        area: usize,
+        header: usize,
+    ) -> Result<u32, String> {
+        group.inputs += 1;
+        let mut memory = std::mem::take(&mut self.memory);
+        memory.resize(area, 0);
+        let mut machine = vec![0xA5; header];
+        let number = read_bytes(file, &mut memory, &mut machine);
+        self.reads[number as usize] += 1;
+        let mut outcome = self.read_call(file, number, &memory, &machine);
+        if number == 0 {
+            outcome = outcome.and_then(|()| self.round_trip(&machine, &memory));
+        }
+        self.memory = memory;
+        let tell = |what| format!("read {} into {area} and {header} bytes: {what}", hex(file));
+        outcome.map(|()| number).map_err(tell)
+    }
+
+    fn read_call(&mut self, file: &[u8], number: u32, memory: &[u8], machine: &[u8]) -> Outcome {
+        let source = Lent::holding(file, self.fills.word());
+        self.area.renew(memory.len(), self.fills.word());
+        self.header.renew(machine.len(), self.fills.word());
+        let (area, header) = (&mut self.area, &mut self.header);
+        let given = ffi_snapshot::read(source.part(), area.part_mut(), header.part_mut());
+        let mut wrong = Vec::new();
+        if given != number {
+            wrong.push(format!("answer {given}, should be {number}"));
+        }
+        note(&mut wrong, "area", self.area.difference(memory));
+        note(&mut wrong, "header", self.header.difference(machine));
+        note(&mut wrong, "file", source.difference(file));
+        outcome(&wrong)
+    }
+
+    /// What was read is written, and read again: the same header and memory.
+    fn round_trip(&mut self, machine: &[u8], memory: &[u8]) -> Outcome {
+        let mut file = self.write_call(machine, memory, LONGEST_FILE)?.1;
+        let outcome = self.read_call(&file, 0, memory, machine);
+        self.longest = self.longest.max(file.len());
+        file.clear();
+        self.file = file;
+        outcome.map_err(|what| format!("read again: {what}"))
+    }
+
+    /// Writes into an output of `room` bytes, and answers the number.
+    pub fn write_into(
+        &mut self,
+        group: &mut Group,
+        machine: &[u8],
+        memory: &[u8],
+        room: usize,
+    ) -> Result<u32, String> {
+        group.inputs += 1;
+        let (number, file) = self.write_call(machine, memory, room)?;
+        self.file = file;
+        Ok(number)
+    }
+
+    /// One call of write: the number and the file.
+    fn write_call(
+        &mut self,
+        machine: &[u8],
+        memory: &[u8],
+        room: usize,
+    ) -> Result<(u32, Vec<u8>), String> {
+        let mut file = std::mem::take(&mut self.file);
+        file.resize(room, 0);
+        let mut length = 0;
+        let number = write_bytes(machine, memory, &mut file, &mut length);
+        self.writes[number as usize] += 1;
+        let source = Lent::holding(machine, self.fills.word());
+        self.area.renew(memory.len(), self.fills.word());
+        self.area.part_mut().copy_from_slice(memory);
+        self.out.renew(room, self.fills.word());
+        let dirty = self.fills.word();
+        let mut cells = [dirty; 3];
+        let (area, out) = (self.area.part(), self.out.part_mut());
+        let given = ffi_snapshot::write(source.part(), area, out, &mut cells[1]);
+        let mut wrong = Vec::new();
+        if given != number {
+            wrong.push(format!("answer {given}, should be {number}"));
+        }
+        if black_box(cells) != [dirty, length, dirty] {
+            wrong.push(format!("length {}, should be {length}", cells[1]));
+        }
+        note(&mut wrong, "output", self.out.difference(&file));
+        note(&mut wrong, "area", self.area.difference(memory));
+        note(&mut wrong, "header", source.difference(machine));
+        let tell = |what| format!("write {} into {room} bytes: {what}", hex(machine));
+        outcome(&wrong).map_err(tell)?;
+        file.truncate(length as usize);
+        Ok((number, file))
+    }
+}
+
+fn note(wrong: &mut Vec<String>, place: &str, what: Option<String>) {
+    wrong.extend(what.map(|what| format!("{place}: {what}")));
+}
+
+fn outcome(wrong: &[String]) -> Outcome {
+    if wrong.is_empty() {
+        return Ok(());
+    }
+    Err(wrong.join("; "))
+}

@@ -1,0 +1,12 @@
+//! The comparison of `.z80` files: the calls that are checked, the files made for them, and the groups.
+
+pub mod block_groups;
+pub mod checks;
+pub mod coding;
+pub mod fault_groups;
+pub mod faults;
+pub mod header_groups;
+pub mod maker;
+pub mod order_groups;
+pub mod sample;
+pub mod write_groups;

@@ -1,0 +1,47 @@
+//! A file in its parts, so that each can be damaged alone.
+
+use super::coding::Coding;
+use reference::machine::{Model, Version};
+
+#[derive(Clone)]
+pub struct Block {
+    pub number: u8,
+    pub coding: Coding,
+}
+
+#[derive(Clone)]
+pub struct Sample {
+    pub version: Version,
+    pub model: Model,
+    pub header: Vec<u8>,
+    /// The blocks of v2 and v3.
+    pub blocks: Vec<Block>,
+    /// The body of v1 without its end marker, and the marker.
+    pub body: Vec<u8>,
+    pub marker: Vec<u8>,
+    /// Bytes after the file.
+    pub tail: Vec<u8>,
+    /// Where the file is cut off.
+    pub cut: Option<usize>,
+}
+
+impl Sample {
+    pub fn bytes(&self) -> Vec<u8> {
+        let mut file = self.header.clone();
+        for block in &self.blocks {
+            file.extend(block.coding.length.to_le_bytes());
+            file.push(block.number);
+            file.extend(&block.coding.data);
+        }
+        file.extend(&self.body);
+        file.extend(&self.marker);
+        file.extend(&self.tail);
+        file.truncate(self.cut.unwrap_or(file.len()));
+        file
+    }
+
+    /// A v1 file whose byte 12 says packed.
+    pub fn is_packed_v1(&self) -> bool {
+        self.version == Version::V1 && self.header[12] & 0x20 != 0 && self.header[12] != 255
+    }
+}
