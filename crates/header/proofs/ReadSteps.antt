@@ -1,11 +1,9 @@
 -- The parts of a machine, at each return of the code that reads them.
 use Prim.Native.Nat.{ℕ, _+_, _-_, _<_, _≤_}
-use native.Mathlib.Nat.{add-sub-cancel-left}
 use native.Mathlib.Omega.{arith}
 use mathlib.Core.Path.{_≡_, ap, _∙_}
-use mathlib.Core.List.{List, _++_, append-nil}
-use lib.ListN.{length, take, drop, length-drop, drop-of-length-le}
-use lib.Seq.{take-length, length-take-le}
+use mathlib.Core.List.{List}
+use lib.ListN.{take, drop}
 use borrow.Author.Tests.{ne-eqb}
 use Rattle.spectrum.specs.declared.Model.{Model}
 use Rattle.spectrum.specs.declared.Model.the-variants.{K128}
@@ -51,15 +49,6 @@ module _ (v : Version) (n : ℕ) (h : headerLength v ≤ n) where
 
 pub inside-sound : (m : Model) (n : ℕ) → m ≡ K128 → (m ≡ K128 → 55 ≤ n) → 39 + 16 ≤ n
 inside-sound m n e f = let k : 55 ≤ n = f e in omega arith
-
--- a part of a slice, copied over an array of its length, is the array
-over : (n : ℕ) (p t : List ℕ) → length p ≡ n → length t ≡ n → take (length p) p ++ drop (length p) t ≡ p
-over n p t h k = rw (take-length, drop-of-length-le t {i = length p} (omega arith), append-nil)
-
-pub part-copied : (n from : ℕ) (s t : List ℕ) → from + n ≤ length s → length t ≡ n
-    → take (length (take (from + n - from) (drop from s))) (take (from + n - from) (drop from s)) ++ drop (length (take (from + n - from) (drop from s))) t ≡ take n (drop from s)
-part-copied n from s t h k =
-    rw (add-sub-cancel-left from n) (over n (take n (drop from s)) t (length-take-le n (drop from s) (simp length-drop (omega arith))) k)
 
 -- parts by version and model
 pub carry-128 : (m : Model) (b : ℕ) → m ≡ K128 → b ≡ carried m b

@@ -103,15 +103,6 @@ fn later_byte(s: &[u8], version: Version, place: usize) -> u8
     }
 }
 
-fn part16(s: &[u8], from: usize) -> [u8; 16]
-    requires { ⌜ from + 16 ≤ length (now s) ⌝ }
-    ensures { λ r. ⌜ r ≡ take 16 (drop from (now (s .entry))) ⌝ }
-{
-    let mut t = [0u8; 16];
-    bytes::copy(&s[from..from + 16], &mut t);
-    t
-}
-
 fn part25(s: &[u8], from: usize) -> [u8; 25]
     requires { ⌜ from + 25 ≤ length (now s) ⌝ }
     ensures { λ r. ⌜ r ≡ take 25 (drop from (now (s .entry))) ⌝ }
@@ -127,7 +118,7 @@ fn read_sound(s: &[u8], model: Model) -> [u8; 16]
 {
     match model {
         Model::K48 => [0u8; 16],
-        Model::K128 => part16(s, 39),
+        Model::K128 => slices::part16(s, 39),
     }
 }
 

@@ -40,16 +40,9 @@ fn write_back(m: Machine, dst: &mut [u8])
     let model = m.model;
     let sound = m.sound;
     let side = m.side;
-    put16(dst, 39, &sound);
+    slices::put16(dst, 39, &sound);
     slices::put_at(dst, 55, &counter_bytes(model, m.position, m.side59));
     put25(dst, 61, &side);
-}
-
-fn put16(dst: &mut [u8], at: usize, src: &[u8; 16])
-    requires { ⌜ at + 16 ≤ length (now dst) ⌝ }
-    ensures { λ _. ⌜ now (dst .exit) ≡ put (now (dst .entry)) at (now (src .entry)) ⌝ }
-{
-    slices::put_at(dst, at, src);
 }
 
 fn put25(dst: &mut [u8], at: usize, src: &[u8; 25])

@@ -3,7 +3,7 @@ use Prim.Native.Nat.{ℕ, zero, suc, _+_, _-_, _≤_, _<_}
 use native.Mathlib.Nat.{not-suc-le-zero, le-of-suc-le-suc, suc-le-suc-iff}
 use native.Mathlib.Numerals.{towards-suc}
 use native.Mathlib.Omega.{arith}
-use mathlib.Core.Path.{_≡_, refl, sym, ap, _∙_}
+use mathlib.Core.Path.{_≡_, refl, sym, ap, subst, _∙_}
 use mathlib.Core.Bool.{Bool, true, false, not}
 use mathlib.Core.List.{List, [], _∷_, _++_, append-assoc}
 use lib.ListN.{length, getD, take, drop, set, replicate, length-append, length-drop, length-replicate, replicate-append-replicate}
@@ -49,16 +49,24 @@ put-less d₀ d us vs o h p =
           ∙ take-at (take o d₀ ++ us) vs (o + length us) (length-append (take o d₀) us ∙ ap (λ (n : ℕ). n + length us) (length-take-le o d₀ (omega arith)));
     }
 
+-- more of one byte was written: the first n of them
+put-fewer : (d₀ d : List ℕ) (o n m v : ℕ) → n ≤ m → o + m ≤ length d₀ → Put d₀ o (replicate m v) d → Put d₀ o (replicate n v) d
+put-fewer d₀ d o n m v k h p =
+    let e : n + (m - n) ≡ m = omega arith in
+    let q : replicate m v ≡ replicate n v ++ replicate (m - n) v = sym (replicate-append-replicate n (m - n) v ∙ ap (λ (i : ℕ). replicate i v) e) in
+    put-less d₀ d (replicate n v) (replicate (m - n) v) o (omega (arith, length-replicate n v)) (subst (λ (l : List ℕ). Put d₀ o l d) q p)
+
 pub put-up-to-4 : (d : List ℕ) (o n v : ℕ) → o + 4 ≤ length d → n ≤ 4 → Put d o (replicate n v) (set (set (set (set d o v) (o + 1) v) (o + 2) v) (o + 3) v)
-put-up-to-4 d o n v h k =
-    let m : n + (4 - n) ≡ 4 = omega arith in
-    let e : replicate n v ++ replicate (4 - n) v ≡ replicate 4 v = replicate-append-replicate n (4 - n) v ∙ ap (λ (i : ℕ). replicate i v) m in
-    put-less d _ (replicate n v) (replicate (4 - n) v) o (omega (arith, length-replicate n v)) (rw e (put-4 d o v v v v h))
+put-up-to-4 d o n v h k = put-fewer d _ o n 4 v k h (put-4 d o v v v v h)
 
 pub put-part : (d l : List ℕ) (o n v : ℕ) → o + n ≤ length d → l ≡ replicate (length (midOf o (o + n - o) d)) v → Put d o (replicate n v) (putMid o (o + n - o) d l)
 put-part d l o n v h e =
     let w = put-run d l o n v h e in
     record { long = w .0; wrote = ap (λ (k : ℕ). take (o + k) (putMid o (o + n - o) d l)) (length-replicate n v) ∙ w .1 }
+
+pub put-up-to-16 : (d l : List ℕ) (o n v : ℕ) → o + n ≤ length d → n ≤ 16 → 16 ≤ length d - o → l ≡ replicate (length (midOf o (o + 16 - o) d)) v
+    → Put d o (replicate n v) (putMid o (o + 16 - o) d l)
+put-up-to-16 d l o n v g k h e = let r : o + 16 ≤ length d = omega arith in put-fewer d _ o n 16 v k r (put-part d l o 16 v r e)
 
 -- the bytes of a run
 front-at : (x : ℕ) (xs : List ℕ) (k : ℕ) → k < front x xs → getD xs k 0 ≡ x

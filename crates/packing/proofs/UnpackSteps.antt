@@ -9,9 +9,8 @@ use lib.ListN.{length, getD, take, drop, replicate, length-append, length-drop, 
 use lib.Seq.{getD-drop, drop-drop, take-all, length-take-le}
 use lib.Dec.{eqb}
 use borrow.Author.Tests.{ne-eqb, eq-eqb}
-use borrow.Rule.Slice.PartMut.{putMid, midOf}
 use Rattle.slices.specs.Choose.{choose, both}
-use Rattle.slices.proofs.Fills.{put-run, cleared-whole}
+use Rattle.slices.proofs.Fills.{cleared-whole}
 use Rattle.packing.specs.Packed.{Found, malformed, bytes, before, pair, run, unpacked}
 use Rattle.packing.specs.Packed.Steps.{front-plain, front-cut, front-run, unpacked-nil}
 use Rattle.packing.specs.Unpacking.{answerOf, leftBy, Unpacks}
@@ -174,17 +173,16 @@ module _ (s d₀ d : List ℕ) (i o : ℕ) (g : Going s d₀ d i o) where
       full-run a z k p =
           over-into a (replicate n (getD s (i + 3) 0)) (unpacked (drop (i + 4) s)) p (stands z) (omega (arith, length-replicate n (getD s (i + 3) 0)))
 
-      pub going-run : (l : List ℕ) → (n ≡ 0 → ⊥) → o + n ≤ length d → l ≡ replicate (length (midOf o (o + n - o) d)) (getD s (i + 3) 0)
-          → Going s d₀ (putMid o (o + n - o) d l) (i + 4) (o + n)
-      going-run l z k p =
-          let w = put-run d l o n (getD s (i + 3) 0) k p in
+      pub going-run : (d′ : List ℕ) → Put d o (replicate n (getD s (i + 3) 0)) d′ → (n ≡ 0 → ⊥) → o + n ≤ length d → Going s d₀ d′ (i + 4) (o + n)
+      going-run d′ p z k =
           record {
             reach = h;
-            room = omega (arith, w .0);
-            long = w .0 ∙ g .long;
+            room = omega (arith, p .long);
+            long = p .long ∙ g .long;
             same =
                 g .same ∙ ap (before (take o d)) (stands z) ∙ before-before (take o d) (replicate n (getD s (i + 3) 0)) (unpacked (drop (i + 4) s))
-                ∙ ap (λ (z : List ℕ). before z (unpacked (drop (i + 4) s))) (sym (w .1));
+                ∙ ap (λ (z : List ℕ). before z (unpacked (drop (i + 4) s)))
+                (sym (p .wrote) ∙ ap (λ (m : ℕ). take (o + m) d′) (length-replicate n (getD s (i + 3) 0)));
           }
 
   -- all is read

@@ -36,6 +36,11 @@ pub record Moved (s : List ℕ) (i : ℕ) (d₀ : List ℕ) (o k : ℕ) (d : Lis
   pub moved : take (o + k) d ≡ take o d₀ ++ take k (drop i s)
   pub plain : (j : ℕ) → j < k → getD s (i + j) 0 ≡ ED → ⊥
 
+-- the same, of at most m bytes
+pub record MovedUpTo (m : ℕ) (s : List ℕ) (i : ℕ) (d₀ : List ℕ) (o k : ℕ) (d : List ℕ) : Type 0 where
+  pub few : k ≤ m
+  pub part : Moved s i d₀ o k d
+
 -- what is left of the run at i
 abbrev pub runAt : List ℕ → ℕ → ℕ
 runAt s i = suc (front (getD s i 0) (drop (i + 1) s))

@@ -3,12 +3,12 @@
 ghost use Prim.Native.Nat.{ℕ, _+_, _≤_, _<_};
 ghost use mathlib.Core.Path.{_≡_};
 ghost use mathlib.Core.List.{_∷_, []};
-ghost use mathlib.Core.Bool.{true};
+ghost use mathlib.Core.Bool.{true, false};
 ghost use lib.ListN.{length, getD, drop, replicate};
 ghost use Rattle.packing.specs.Packed.{pair, unpacked, packed};
 ghost use Rattle.packing.specs.Unpacking.{Unpacks};
 ghost use Rattle.packing.specs.Packing.{Packs};
-ghost use Rattle.packing.specs.Inner.{over, Into, Until, Moved, runAt, RunLeft, Put, PackedInto};
+ghost use Rattle.packing.specs.Inner.{over, Into, Until, Moved, MovedUpTo, runAt, RunLeft, Put, PackedInto};
 
 // The answer of unpacking.
 pub enum Unpacked {
@@ -65,7 +65,7 @@ fn unpack_into(src: &[u8], dst: &mut [u8]) -> Unpacked
             if dst.len() < e {
                 return rest(src, p);
             }
-            slices::fill(&mut dst[q..e], y);
+            fill_run(dst, q, n, y);
             o = e;
             i = p + 4;
         } else {
@@ -81,6 +81,22 @@ fn unpack_into(src: &[u8], dst: &mut [u8]) -> Unpacked
         return Unpacked::Good;
     }
     Unpacked::WrongLength
+}
+
+// n times v from o on. A short run is stored as 16 bytes where there is room for them: what follows is written later.
+fn fill_run(dst: &mut [u8], o: usize, n: usize, v: u8)
+    requires { ⌜ o + n ≤ length (now dst) ⌝ }
+    ensures { λ _. ⌜ Put (now (dst .entry)) o (replicate n v) (now (dst .exit)) ⌝ }
+{
+    if n <= 16 {
+        if 16 <= dst.len() - o {
+            let f = o + 16;
+            slices::fill(&mut dst[o..f], v);
+            return;
+        }
+    }
+    let e = o + n;
+    slices::fill(&mut dst[o..e], v);
 }
 
 // The answer where dst is full and the bytes from `from` on are left: a bad code among them still decides.
@@ -105,15 +121,60 @@ fn rest(src: &[u8], from: usize) -> Unpacked
     Unpacked::WrongLength
 }
 
-// The bytes of src from i on, up to an ED or until either slice ends, stored into dst from o on; how many.
+// Bytes of src from i on, none of them ED, stored into dst from o on; how many. The first 16 are looked at one by one, for
+// most stretches are short, and the others in blocks.
 fn plain_part(src: &[u8], i: usize, dst: &mut [u8], o: usize) -> usize
     requires { ⌜ (i ≤ length (now src)) × (o ≤ length (now dst)) ⌝ }
     ensures { λ r. ⌜ Moved (now (src .entry)) i (now (dst .entry)) o r (now (dst .exit)) ⌝ }
 {
     let m = slices::least(src.len() - i, dst.len() - o);
+    let few = slices::least(m, 16);
+    let k = some_plain(src, i, dst, o, few);
+    if k < 16 {
+        return k;
+    }
+    let more = m - k;
+    k + plain_blocks(src, i + k, dst, o + k, more)
+}
+
+// The bytes of src from i on before an ED, at most m, stored into dst from o on; how many.
+fn some_plain(src: &[u8], i: usize, dst: &mut [u8], o: usize, m: usize) -> usize
+    requires { ⌜ (i + m ≤ length (now src)) × (o + m ≤ length (now dst)) ⌝ }
+    ensures { λ r. ⌜ MovedUpTo m (now (src .entry)) i (now (dst .entry)) o r (now (dst .exit)) ⌝ }
+{
     let e = i + m;
     let f = o + m;
     until_ed(&src[i..e], &mut dst[o..f])
+}
+
+// Whole blocks of src from i on that have no ED, at most m bytes, stored into dst from o on; how many bytes.
+fn plain_blocks(src: &[u8], i: usize, dst: &mut [u8], o: usize, m: usize) -> usize
+    requires { ⌜ (i + m ≤ length (now src)) × (o + m ≤ length (now dst)) ⌝ }
+    ensures { λ r. ⌜ MovedUpTo m (now (src .entry)) i (now (dst .entry)) o r (now (dst .exit)) ⌝ }
+{
+    let mut k: usize = 0;
+    while 16 <= m - k {
+        let block = slices::part16(src, i + k);
+        if has_ed(block) {
+            return k;
+        }
+        slices::put16(dst, o + k, &block);
+        k += 16;
+    }
+    k
+}
+
+// Whether a block has an ED; where it says no, there is none.
+fn has_ed(block: [u8; 16]) -> bool
+    ensures { λ r. ⌜ (r ≡ false → (j : ℕ) → j < 16 → getD block j 0 ≡ 237 → ⊥) ⌝ }
+{
+    let mut any = false;
+    let mut j = 0;
+    while j < 16 {
+        any = any | (block[j] == 237);
+        j += 1;
+    }
+    any
 }
 
 // The bytes of s before its first ED, stored into d, which is at least as long; how many.

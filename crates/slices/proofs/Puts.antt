@@ -1,8 +1,8 @@
 -- Laws of bytes written over others.
 use Prim.Native.Nat.{ℕ, _+_, _-_, _≤_}
-use native.Mathlib.Nat.{add-assoc, zero-add}
+use native.Mathlib.Nat.{add-assoc, zero-add, add-sub-cancel-left}
 use native.Mathlib.Omega.{arith}
-use mathlib.Core.Path.{_≡_, ap, _∙_}
+use mathlib.Core.Path.{_≡_, sym, ap, _∙_}
 use mathlib.Core.List.{List, _++_, append-assoc, append-nil}
 use lib.ListN.{length, take, drop, length-append, length-drop, drop-of-length-le}
 use lib.Seq.{take-all, take-length, length-take-le, take-at, drop-at, drop-drop}
@@ -40,3 +40,19 @@ put-put d p q i n e h =
 pub put-zero : (d l : List ℕ) (n : ℕ) → length l ≡ n → put d 0 l ≡ l ++ drop n d
 unfolding put
 put-zero d l n q = ap (λ (m : ℕ). l ++ drop m d) (zero-add (length l) ∙ q)
+
+-- a part of a slice, copied over an array of its length, is the array
+over : (n : ℕ) (p t : List ℕ) → length p ≡ n → length t ≡ n → take (length p) p ++ drop (length p) t ≡ p
+over n p t h k = rw (take-length, drop-of-length-le t {i = length p} (omega arith), append-nil)
+
+pub part-copied : (n from : ℕ) (s t : List ℕ) → from + n ≤ length s → length t ≡ n
+    → take (length (take (from + n - from) (drop from s))) (take (from + n - from) (drop from s)) ++ drop (length (take (from + n - from) (drop from s))) t ≡ take n (drop from s)
+part-copied n from s t h k =
+    rw (add-sub-cancel-left from n) (over n (take n (drop from s)) t (length-take-le n (drop from s) (simp length-drop (omega arith))) k)
+
+-- what stands before and in a piece that was written
+pub take-put : (d p : List ℕ) (i : ℕ) → i ≤ length d → take (i + length p) (put d i p) ≡ take i d ++ p
+unfolding put
+take-put d p i h =
+    ap (take (i + length p)) (sym (append-assoc (take i d) p (drop (i + length p) d)))
+    ∙ take-at (take i d ++ p) (drop (i + length p) d) (i + length p) (length-append (take i d) p ∙ ap (λ (m : ℕ). m + length p) (length-take-le i d h))

@@ -2,7 +2,7 @@
 ghost use Prim.Native.Nat.{_+_, _-_, _≤_, _<_};
 ghost use mathlib.Core.Path.{_≡_};
 ghost use mathlib.Core.List.{_++_};
-ghost use lib.ListN.{length, take, replicate};
+ghost use lib.ListN.{length, take, drop, replicate};
 ghost use Rattle.slices.specs.Put.{put};
 
 // Every byte of dst becomes v.
@@ -32,6 +32,24 @@ pub fn put_at(dst: &mut [u8], at: usize, src: &[u8])
     ensures { λ _. ⌜ now (dst .exit) ≡ put (now (dst .entry)) at (now (src .entry)) ⌝ }
 {
     bytes::copy(src, &mut dst[at..]);
+}
+
+// src written over dst from at on, where 16 bytes are.
+pub fn put16(dst: &mut [u8], at: usize, src: &[u8; 16])
+    requires { ⌜ at + 16 ≤ length (now dst) ⌝ }
+    ensures { λ _. ⌜ now (dst .exit) ≡ put (now (dst .entry)) at (now (src .entry)) ⌝ }
+{
+    put_at(dst, at, src);
+}
+
+// The 16 bytes of s from `from` on.
+pub fn part16(s: &[u8], from: usize) -> [u8; 16]
+    requires { ⌜ from + 16 ≤ length (now s) ⌝ }
+    ensures { λ r. ⌜ r ≡ take 16 (drop from (now (s .entry))) ⌝ }
+{
+    let mut t = [0u8; 16];
+    bytes::copy(&s[from..from + 16], &mut t);
+    t
 }
 
 // The lesser of two.

@@ -145,30 +145,30 @@ module _ (number : ℕ) (s d₀ : List ℕ) (at : ℕ) (h : (length s ≡ 16384)
     pub head-small : (n : ℕ) → r ≡ Length n → n < 65536
     head-small n q = let f = fits-in n q in omega (arith, f .size, page-short s (h .0))
 
-    pub block-inside : (n bound : ℕ) → r ≡ Length n → m ≡ min (length d₀ - at - 3) bound → at + 3 + n ≤ length d₀
-    block-inside n bound q e = let f = fits-in n q in omega (arith, f .room)
+    pub fits-room : (n : ℕ) → r ≡ Length n → n ≤ m
+    fits-room n q = let f = fits-in n q in omega (arith, f .room)
 
-    -- packed into no more than 16,383 bytes
+    pub laid-packed : (n bound : ℕ) (d : List ℕ) → r ≡ Length n → d ≡ put d₁ at (n % 256 ∷ n / 256 ∷ number ∷ []) → m ≡ min (length d₀ - at - 3) bound → n < 16384
+        → Laid (blockFor number s) d₀ at (at + 3 + n) d
+    laid-packed n bound d q x e small =
+        let f = fits-in n q in
+        let ws = n % 256 ∷ n / 256 ∷ number ∷ [] in
+        let i : at + 3 ≤ length d₁ = omega (arith, f .long) in
+        let b : blockFor number s ≡ ws ++ packed s = block-packed number s (omega (arith, f .size)) ∙ ap (λ (j : ℕ). j % 256 ∷ j / 256 ∷ number ∷ packed s) (f .size) in
+        record {
+          end = omega (arith, ap length b, f .size);
+          inside = omega (arith, f .room);
+          long = ap length x ∙ length-put d₁ ws at i ∙ f .long;
+          wrote =
+              ap (take (at + 3 + n)) x
+              ∙ take-put-more d₁ ws at i n
+              ∙ ap (λ (z : List ℕ). z ++ (ws ++ take n (drop (at + 3) d₁))) (shorter d₁ d₀ at (at + 3) (omega arith) (f .front))
+              ∙ ap (λ (z : List ℕ). take at d₀ ++ (ws ++ z)) (f .there)
+              ∙ ap (λ (z : List ℕ). take at d₀ ++ z) (sym b);
+        }
+
+    -- not packed into 16,383 bytes
     module _ (e : m ≡ min (length d₀ - at - 3) 16383) where
-      pub laid-packed : (n : ℕ) (d : List ℕ) → r ≡ Length n → d ≡ put d₁ at (n % 256 ∷ n / 256 ∷ number ∷ []) → Laid (blockFor number s) d₀ at (at + 3 + n) d
-      laid-packed n d q x =
-          let f = fits-in n q in
-          let ws = n % 256 ∷ n / 256 ∷ number ∷ [] in
-          let i : at + 3 ≤ length d₁ = omega (arith, f .long) in
-          let small : length (packed s) < 16384 = omega (arith, f .room, f .size) in
-          let b : blockFor number s ≡ ws ++ packed s = block-packed number s small ∙ ap (λ (j : ℕ). j % 256 ∷ j / 256 ∷ number ∷ packed s) (f .size) in
-          record {
-            end = omega (arith, ap length b, f .size);
-            inside = omega (arith, f .room);
-            long = ap length x ∙ length-put d₁ ws at i ∙ f .long;
-            wrote =
-                ap (take (at + 3 + n)) x
-                ∙ take-put-more d₁ ws at i n
-                ∙ ap (λ (z : List ℕ). z ++ (ws ++ take n (drop (at + 3) d₁))) (shorter d₁ d₀ at (at + 3) (omega arith) (f .front))
-                ∙ ap (λ (z : List ℕ). take at d₀ ++ (ws ++ z)) (f .there)
-                ∙ ap (λ (z : List ℕ). take at d₀ ++ z) (sym b);
-          }
-
       pub no-block : r ≡ TooShort → length d₀ - at - 3 < 16384 → Over (blockFor number s) d₀ at d₁
       no-block q j = let f = fits-not q in record { over = go (ltb (length (packed s)) 16384) (block-size number s); long = f .long }
         where

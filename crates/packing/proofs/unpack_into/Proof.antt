@@ -1,8 +1,8 @@
-use Rattle.packing.proofs.Until.{going-until}
-use Rattle.packing.proofs.UnpackSteps.{Going, going-none, going-plain, going-run, full-plain, full-run, cut-into, zero-into, good-into, wrong-into}
-use Prim.Native.Nat.{_+_, _-_, _<_}
-use lib.ListN.{length}
 use borrow.Author.Needs.{needs}
+use lib.ListN.{length}
+use Prim.Native.Nat.{_+_, _-_, _<_}
+use Rattle.packing.proofs.UnpackSteps.{Going, going-none, going-plain, going-run, full-plain, full-run, cut-into, zero-into, good-into, wrong-into}
+use Rattle.packing.proofs.Until.{going-until}
 use Rattle.packing.proofs.unpack_into.Statement.{statement}
 use Rattle.packing.proofs.unpack_into.Tie as tie
 
@@ -96,17 +96,8 @@ returns-5 c =
     let g = going-until _ _ _ _ _ _ _ (p .before .before .before .loop .inv) (p .plain-part .ensures) in
     search full-run
 
-sub-fill : tie.Need-sub-fill Inv-loop μ-loop
-sub-fill c = search needs
-
-part-fill-start : tie.Need-part-fill-start Inv-loop μ-loop
-part-fill-start c = search needs
-
-part-fill-end : tie.Need-part-fill-end Inv-loop μ-loop
-part-fill-end c = search needs
-
-fill-requires : tie.Need-fill-requires Inv-loop μ-loop
-fill-requires c κs = search needs
+fill-run-requires : tie.Need-fill-run-requires Inv-loop μ-loop
+fill-run-requires c κs = search needs
 
 add-i : tie.Need-add-i Inv-loop μ-loop
 add-i c = search needs
@@ -115,7 +106,10 @@ loop-less : tie.Need-loop-less Inv-loop μ-loop
 loop-less c = search needs
 
 loop-again : tie.Need-loop-again Inv-loop μ-loop
-loop-again c = search (going-run, going-until)
+loop-again c =
+    let p = c .before .before .before .before .before .before .before .before .before .before .before .before .before .before .before in
+    let g = going-until _ _ _ _ _ _ _ (p .before .before .before .loop .inv) (p .plain-part .ensures) in
+    search going-run
 
 rest-requires-2 : tie.Need-rest-requires-2 Inv-loop μ-loop
 rest-requires-2 c κs = search needs
@@ -192,10 +186,7 @@ unpack-into-spec =
     rest-requires
     same-length-5
     returns-5
-    sub-fill
-    part-fill-start
-    part-fill-end
-    fill-requires
+    fill-run-requires
     add-i
     loop-less
     loop-again

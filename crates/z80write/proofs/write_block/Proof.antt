@@ -1,6 +1,5 @@
-use Prim.Native.Nat.{_+_, _≤_}
-use lib.ListN.{length}
-use Rattle.z80write.proofs.Parts.{no-head, head-room, head-small, block-inside, laid-packed, no-block, laid-plain}
+use Prim.Native.Nat.{_≤_, _<_}
+use Rattle.z80write.proofs.Parts.{no-head, head-room, head-small, fits-room, laid-packed, no-block, laid-plain}
 use native.Mathlib.Omega.{arith}
 use borrow.Author.Needs.{needs}
 use Rattle.z80write.proofs.write_block.Statement.{statement}
@@ -31,16 +30,16 @@ put-head-requires : tie.Need-put-head-requires
 put-head-requires c κs = (search head-room, search head-small)
 
 add-t18 : tie.Need-add-t18
-add-t18 c =
-    let s = c .before .before .before .before .before .before .before .before .before .before .before .before .before .before .before in
-    let h : s .args .at + 3 + c .before .before .before .before .before .n .given .0 .0 ≤ length (s .args .out .now) = search block-inside in
-    omega arith
+add-t18 c = let h : c .before .before .before .before .before .n .given .0 .0 ≤ c .before .before .before .before .before .before .before .before .before .before .before .min-of .result = search fits-room in omega arith
 
 same-length : tie.Need-same-length
 same-length c = search needs
 
 returns-2 : tie.Need-returns-2
-returns-2 c = search laid-packed
+returns-2 c =
+    let h : c .before .before .before .before .before .n .given .0 .0 ≤ c .before .before .before .before .before .before .before .before .before .before .before .min-of .result = search fits-room in
+    let small : c .before .before .before .before .before .n .given .0 .0 < 16384 = omega arith in
+    search laid-packed
 
 enum-told : tie.Need-enum-told
 enum-told c = search needs

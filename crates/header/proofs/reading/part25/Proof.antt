@@ -1,4 +1,4 @@
-use Rattle.header.proofs.ReadSteps.{part-copied}
+use Rattle.slices.proofs.Puts.{part-copied}
 use mathlib.Core.Path.{refl, _∙_}
 use borrow.Author.Needs.{needs}
 use Rattle.header.proofs.reading.part25.Statement.{statement}

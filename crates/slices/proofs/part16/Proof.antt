@@ -1,8 +1,8 @@
-use Rattle.header.proofs.ReadSteps.{part-copied}
+use Rattle.slices.proofs.Puts.{part-copied}
 use mathlib.Core.Path.{refl, _∙_}
 use borrow.Author.Needs.{needs}
-use Rattle.header.proofs.reading.part16.Statement.{statement}
-use Rattle.header.proofs.reading.part16.Tie as tie
+use Rattle.slices.proofs.part16.Statement.{statement}
+use Rattle.slices.proofs.part16.Tie as tie
 
 add-copy : tie.Need-add-copy
 add-copy c = search needs
