@@ -1,13 +1,14 @@
 -- The whole reading, at each return of the code: what the header, the memory and the cleared area come to.
-use Prim.Native.Nat.{ℕ, _<_, _≤_, _/_, _%_}
+use Prim.Native.Nat.{ℕ, _-_, _<_, _≤_, _/_, _%_}
 use native.Mathlib.Omega.{arith}
-use mathlib.Core.Path.{_≡_, refl, sym, ap, subst, _∙_}
+use mathlib.Core.Path.{_≡_, sym, ap, subst, _∙_}
 use mathlib.Core.Bool.{true}
-use mathlib.Core.List.{List}
-use lib.ListN.{length, drop, replicate, length-replicate}
+use mathlib.Core.List.{List, _++_}
+use lib.ListN.{length, take, drop, replicate, length-replicate}
 use lib.Dec.{eqb}
 use borrow.Author.Tests.{eq-eqb, ne-eqb}
 use Rattle.slices.specs.Blank.{blank}
+use Rattle.slices.proofs.Fills.{cleared-whole}
 use Rattle.spectrum.specs.declared.Machine.{Machine}
 use Rattle.spectrum.specs.declared.Model.{Model}
 use Rattle.spectrum.specs.declared.Attachment.{Attachment}
@@ -65,18 +66,21 @@ module _ (x : Reading) (m : Machine) (n : ℕ) (answer : Answer) (after : List �
           }
       go (whole a) t = absurd (never why (sym e ∙ t .0))
 
-  pub on-accepted : (machine : Machine) → answer ≡ Accepted → machine ≡ m → Leaves (outcomeOf x m n) (record { answer = Accepted; machine = machine }) after
-  on-accepted machine e q = go x t
+  pub on-accepted : (machine : Machine) (r : Opened) → answer ≡ Accepted → machine ≡ m → r .answer ≡ Accepted → r .machine ≡ machine → Leaves (outcomeOf x m n) r after
+  on-accepted machine r e q a b = go x t
     where
-      go : (x : Reading) → Tells x answer after → Leaves (outcomeOf x m n) (record { answer = Accepted; machine = machine }) after
+      go : (x : Reading) → Tells x answer after → Leaves (outcomeOf x m n) r after
       go (refusal w) t = absurd (never w (sym t ∙ e))
-      go (whole a) t = record { answer = refl; machine = q; memory = t .1 }
+      go (whole area) t = record { answer = a; machine = b ∙ q; memory = t .1 }
 
 -- a refusal is not accepted, so nothing is said of its machine
 no-machine : (o : Outcome) (why : Refusal) (r : Opened) (area : List ℕ) → Leaves o r area → r .answer ≡ Refused why → Reads o r area
 no-machine o why r area l e = record { leaves = l; valid = λ a. absurd (never why (sym e ∙ a)) }
 
-module _ (s before clear : List ℕ) (c : clear ≡ replicate (length before) 0) where
+module _ (s before clear : List ℕ) (c₀ : clear ≡ take 0 before ++ replicate (length before - 0) 0) where
+  c : clear ≡ replicate (length before) 0
+  c = cleared-whole before clear c₀
+
   long : length clear ≡ length before
   long = ap length c ∙ length-replicate (length before) 0
 

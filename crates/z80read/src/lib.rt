@@ -9,6 +9,7 @@ use spectrum::Refusal;
 ghost use Prim.Native.Nat.{_≤_};
 ghost use mathlib.Core.Path.{_≡_};
 ghost use lib.ListN.{length};
+ghost use Rattle.spectrum.specs.declared.Answer.the-variants.{Accepted};
 ghost use Rattle.header.specs.Reading.{headerLength, machineOf};
 ghost use Rattle.header.specs.Inner.{Readable};
 ghost use Rattle.blocks.specs.Inner.{Tells};
@@ -24,7 +25,7 @@ pub struct Opened {
 pub fn read(file: &[u8], area: &mut [u8]) -> Opened
     ensures { λ r. ⌜ Reads (readOf (now (file .entry)) (length (now (area .entry)))) r (now (area .exit)) ⌝ }
 {
-    slices::fill(area, 0);
+    slices::clear_from(area, 0);
     if area.len() != 131072 {
         return refused(Refusal::AreaLength);
     }
@@ -58,10 +59,7 @@ fn read_on(
         }
         Answer::Accepted => {
             let machine = header::reading::read_machine(file, version, model, attachment);
-            return Opened {
-                answer: Answer::Accepted,
-                machine: machine,
-            };
+            return accepted(machine);
         }
     }
 }
@@ -78,6 +76,15 @@ fn read_memory(file: &[u8], version: Version, model: Model, area: &mut [u8]) -> 
         }
         Version::V2 => return blocks::read_blocks(file, 55, model, area),
         Version::V3 => return blocks::read_blocks(file, 86, model, area),
+    }
+}
+
+fn accepted(machine: Machine) -> Opened
+    ensures { λ r. ⌜ (r .answer ≡ Accepted) × (r .machine ≡ machine) ⌝ }
+{
+    Opened {
+        answer: Answer::Accepted,
+        machine: machine,
     }
 }
 

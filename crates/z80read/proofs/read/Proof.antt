@@ -3,8 +3,8 @@ use borrow.Author.Needs.{needs}
 use Rattle.z80read.proofs.read.Statement.{statement}
 use Rattle.z80read.proofs.read.Tie as tie
 
-fill-requires : tie.Need-fill-requires
-fill-requires c κs = search needs
+clear-from-requires : tie.Need-clear-from-requires
+clear-from-requires c κs = search needs
 
 refused-requires : tie.Need-refused-requires
 refused-requires c κs = search needs
@@ -46,7 +46,7 @@ pub read-spec : {M : Type 1} → statement M
 read-spec =
     tie.close
     (tie.spec
-    fill-requires
+    clear-from-requires
     refused-requires
     same-length
     returns

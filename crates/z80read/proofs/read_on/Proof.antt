@@ -27,6 +27,9 @@ enum-told c = search needs
 read-machine-requires : tie.Need-read-machine-requires
 read-machine-requires c κs = search needs
 
+accepted-requires : tie.Need-accepted-requires
+accepted-requires c κs = search needs
+
 same-length-2 : tie.Need-same-length-2
 same-length-2 c = search needs
 
@@ -45,5 +48,6 @@ read-on-spec =
     returns
     enum-told
     read-machine-requires
+    accepted-requires
     same-length-2
     returns-2)
