@@ -1,4 +1,4 @@
-/* make_files KIND STORING MEMORY.raw SETTINGS.txt OUT.z80: writes a snapshot through libspectrum. */
+/* make_files KIND STORING MEMORY.raw SETTINGS.txt OUT: writes a snapshot through libspectrum, .z80 or .szx by its ending. */
 #include "settings.h"
 #include <stdlib.h>
 
@@ -76,10 +76,15 @@ static void set_settings(libspectrum_snap *snap, const char *name)
     fclose(file);
 }
 
+static libspectrum_id_t format_of(const char *name)
+{
+    return strstr(name, ".szx") ? LIBSPECTRUM_ID_SNAPSHOT_SZX : LIBSPECTRUM_ID_SNAPSHOT_Z80;
+}
+
 int main(int count, char **words)
 {
     if (count != 6 || libspectrum_init())
-        fail("usage: make_files KIND STORING MEMORY.raw SETTINGS.txt OUT.z80");
+        fail("usage: make_files KIND STORING MEMORY.raw SETTINGS.txt OUT");
     libspectrum_snap *snap = libspectrum_snap_alloc();
     set_kind(snap, words[1]);
     set_pages(snap, words[3]);
@@ -91,7 +96,7 @@ int main(int count, char **words)
         flags = LIBSPECTRUM_FLAG_SNAPSHOT_ALWAYS_COMPRESS;
     libspectrum_byte *bytes = NULL;
     size_t length = 0;
-    if (libspectrum_snap_write(&bytes, &length, &lost, snap, LIBSPECTRUM_ID_SNAPSHOT_Z80, NULL, flags))
+    if (libspectrum_snap_write(&bytes, &length, &lost, snap, format_of(words[5]), NULL, flags))
         fail("not written");
     FILE *out = opened(words[5], "wb");
     if (fwrite(bytes, 1, length, out) != length || fclose(out))
