@@ -1,11 +1,11 @@
 -- Laws of bytes written over others.
-use Prim.Native.Nat.{ℕ, _+_, _-_, _≤_}
+use Prim.Native.Nat.{ℕ, _+_, _-_, _≤_, _<_}
 use native.Mathlib.Nat.{add-assoc, zero-add, add-sub-cancel-left}
 use native.Mathlib.Omega.{arith}
 use mathlib.Core.Path.{_≡_, sym, ap, _∙_}
 use mathlib.Core.List.{List, _++_, append-assoc, append-nil}
-use lib.ListN.{length, take, drop, length-append, length-drop, drop-of-length-le}
-use lib.Seq.{take-all, take-length, length-take-le, take-at, drop-at, drop-drop}
+use lib.ListN.{length, getD, take, drop, length-append, length-drop, drop-of-length-le, List·getD-append}
+use lib.Seq.{getD-drop, getD-take, getD-append-add, take-all, take-length, length-take-le, take-at, drop-at, drop-drop}
 use borrow.Rule.Slice.PartMut.{putMid, midOf}
 use Rattle.slices.specs.Put.{put}
 
@@ -56,3 +56,22 @@ unfolding put
 take-put d p i h =
     ap (take (i + length p)) (sym (append-assoc (take i d) p (drop (i + length p) d)))
     ∙ take-at (take i d ++ p) (drop (i + length p) d) (i + length p) (length-append (take i d) p ∙ ap (λ (m : ℕ). m + length p) (length-take-le i d h))
+
+-- bytes before, in and after a piece that was written
+module _ (a p : List ℕ) (b : ℕ) (h : b + length p ≤ length a) where
+  front-long : length (take b a) ≡ b
+  front-long = length-take-le b a (omega arith)
+
+  pub put-below : (i : ℕ) → i < b → getD (put a b p) i 0 ≡ getD a i 0
+  unfolding put
+  put-below i q = List·getD-append (take b a) _ 0 i (omega (arith, front-long)) ∙ getD-take b a i 0 q
+
+  past-front : (j : ℕ) → getD (put a b p) (b + j) 0 ≡ getD (p ++ drop (b + length p) a) j 0
+  unfolding put
+  past-front j = ap (λ (n : ℕ). getD (put a b p) (n + j) 0) (sym front-long) ∙ getD-append-add (take b a) (p ++ drop (b + length p) a) j 0
+
+  pub put-in : (j : ℕ) → j < length p → getD (put a b p) (b + j) 0 ≡ getD p j 0
+  put-in j q = past-front j ∙ List·getD-append p _ 0 j q
+
+  pub put-above : (j : ℕ) → getD (put a b p) (b + (length p + j)) 0 ≡ getD a (b + length p + j) 0
+  put-above j = past-front (length p + j) ∙ getD-append-add p _ j 0 ∙ getD-drop (b + length p) a j 0

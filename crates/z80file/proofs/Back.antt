@@ -11,7 +11,7 @@ use lib.Seq.{getD-drop, getD-take, drop-drop, take-at, drop-at, getD-set-same, g
 use Rattle.slices.specs.Choose.{choose}
 use Rattle.slices.specs.Put.{put}
 use Rattle.slices.specs.Blank.{blank}
-use Rattle.slices.proofs.Puts.{length-put}
+use Rattle.slices.proofs.Puts.{length-put, put-in}
 use Rattle.packing.specs.Packed.{bytes, packed}
 use Rattle.packing.specs.Packed.Promise.{unpacked-packed}
 use Rattle.spectrum.specs.declared.Model.{Model}
@@ -24,7 +24,7 @@ use Rattle.blocks.proofs.Turns.{turn, ended}
 use Rattle.z80write.specs.declared.Slot.{Slot}
 use Rattle.z80write.specs.Written.{blockFor, slots, laid}
 use Rattle.z80file.specs.Clean.{Clean}
-use Rattle.z80file.proofs.Places.{put-in, put-elsewhere, blank-at, blank-long}
+use Rattle.z80file.proofs.Places.{put-elsewhere, blank-at, blank-long}
 
 -- the block at the front of a list that holds it whole
 front : (model : Model) (seen : List Bool) (s : List ℕ) (n size : ℕ) → wordOf s ≡ n → size ≡ sizeOf n → 3 + size ≤ length s

@@ -1,0 +1,243 @@
+-- A correction that is accepted writes a step that can be taken back and made again: proved once, when it is made.
+use Prim.Native.Nat.{ℕ, zero, suc, _+_, _-_, _*_, _/_, _%_, _≤_, _<_}
+use mathlib.Core.Path.{_≡_, refl, sym, ap, subst, _∙_}
+use mathlib.Core.Bool.{Bool, true, false, not}
+use mathlib.Core.List.{List, [], _∷_}
+use native.Mathlib.Omega.{arith}
+use borrow.Author.Tests.{lt-ltb, ltb-true, ltb-false}
+use lib.Dec.{ltb, eqb}
+use lib.ListN.{length, set, getD, length-set}
+use lib.Seq.{getD-set-same, set-set, set-getD}
+use Rattle.slices.specs.Choose.{choose}
+use Rattle.spectrum.specs.declared.Machine.{Machine}
+use Rattle.spectrum.specs.declared.Model.{Model}
+use Rattle.spectrum.specs.declared.Model.the-variants.{K48, K128}
+use Rattle.spectrum.specs.declared.Place.{Place}
+use Rattle.spectrum.specs.declared.Place.the-variants.{Rom, Ram}
+use Rattle.spectrum.specs.declared.Refusal.{Refusal}
+use Rattle.spectrum.specs.declared.Refusal.the-variants.{RomAddress, OutOn48k, PagingLocked, JournalFull, PairNumber}
+use Rattle.spectrum.specs.declared.Answer.{Answer}
+use Rattle.spectrum.specs.declared.Answer.the-variants.{Accepted, Refused}
+use Rattle.spectrum.specs.Machine.{withPair, withOut}
+use Rattle.spectrum.specs.Pages.{owned, topPage, placeOf}
+use Rattle.spectrum.specs.Valid.{validOf, quietOf}
+use Rattle.spectrum.proofs.Places.{owned-all}
+use Rattle.journal.specs.declared.Step.{Step}
+use Rattle.journal.specs.Model.{World, Correction, byteAt, pairTo, outTo, placeIn, store, make, refuse, romFirst, outFirst, room, refusal}
+use Rattle.journal.specs.Steps.{putStep, stepAt, step, byteStep, stepFor, present, placed, intact}
+use Rattle.journal.specs.Claim.{Fit, Wide}
+use Rattle.journal.proofs.Log.{stepAt-same}
+
+-- the step at k is s, it leads from the world w to w′, and it can be taken back and made again
+pub record Holds (log : List ℕ) (k : ℕ) (s : Step) (w w′ : World) : Type 0 where
+  pub reads : stepAt log k ≡ s
+  pub whole : intact (w .machine .model) s ≡ true
+  pub model : w′ .machine .model ≡ w .machine .model
+  pub new-there : present s w′ ≡ s .new
+  pub old-there : present s w ≡ s .old
+  pub back : placed s (s .old) w′ ≡ w
+  pub forth : placed s (s .new) w ≡ w′
+  pub before : Fit w
+  pub after : Fit w′
+
+-- the step at k is the correction c made on the world w
+abbrev pub Held : List ℕ → ℕ → Correction → World → Type 0
+Held log k c w = Holds log k (stepFor c w) w (make c w)
+
+pub never : (w : Refusal) → Refused w ≡ Accepted → ⊥
+never w p = let z : _≡_ {A = ℕ} 0 1 = cc in omega arith
+
+pub refuse-not : (t : Bool) (w : Refusal) (a : Answer) → refuse t w a ≡ Accepted → (t ≡ false) × (a ≡ Accepted)
+refuse-not true w a e = absurd (never w e)
+refuse-not false w a e = (refl, e)
+
+pub not-flip : (t : Bool) → not t ≡ false → t ≡ true
+not-flip true e = refl
+not-flip false e = let z : _≡_ {A = ℕ} 0 1 = cc in absurd (omega arith)
+
+has-room : (cap n : ℕ) → room cap n ≡ Accepted → n < cap
+has-room cap n e = ltb-true n cap (not-flip (ltb n cap) (refuse-not (not (ltb n cap)) JournalFull Accepted e .0))
+
+out-128 : (k : Model) (out : ℕ) (a : Answer) → outFirst k out a ≡ Accepted → (k ≡ K128) × (a ≡ Accepted)
+out-128 K48 out a e = absurd (never OutOn48k e)
+out-128 K128 out a e = (refl, refuse-not (eqb (out / 32 % 2) 1) PagingLocked a e .1)
+
+-- a place of the RAM is inside a page that the machine owns
+pub record Inside (model : Model) (page offset : ℕ) : Type 0 where
+  pub mine : owned model page ≡ true
+  pub small : page < 8
+  pub low : offset < 16384
+
+top-inside : (k : Model) (out o : ℕ) → o < 16384 → Inside k (topPage k out) o
+top-inside K48 out o h = record { mine = refl; small = omega arith; low = h }
+top-inside K128 out o h = record { mine = sym (owned-all K128 (out % 8) refl (omega arith)); small = omega arith; low = h }
+
+five-two : (k : Model) (o : ℕ) → o < 16384 → (Inside k 5 o) × (Inside k 2 o)
+five-two K48 o h = (record { mine = refl; small = omega arith; low = h }, record { mine = refl; small = omega arith; low = h })
+five-two K128 o h = (record { mine = refl; small = omega arith; low = h }, record { mine = refl; small = omega arith; low = h })
+
+pub place-inside : (k : Model) (out a page offset : ℕ) → a < 65536 → placeOf k out a ≡ Ram page offset → Inside k page offset
+place-inside k out a page offset h e = go (ltb a 0x4000) (ltb a 0x8000) (ltb a 0xC000) refl refl refl e
+  where
+    same : (p o : ℕ) → Inside k p o → Ram p o ≡ Ram page offset → Inside k page offset
+    same p o i q =
+        let ep : p ≡ page = cc in
+        let eo : o ≡ offset = cc in
+        subst (λ (x : ℕ). Inside k x offset) ep (subst (λ (x : ℕ). Inside k p x) eo i)
+
+    go : (x y z : Bool) → ltb a 0x4000 ≡ x → ltb a 0x8000 ≡ y → ltb a 0xC000 ≡ z
+        → choose x Rom (choose y (Ram 5 (a - 0x4000)) (choose z (Ram 2 (a - 0x8000)) (Ram (topPage k out) (a - 0xC000)))) ≡ Ram page offset → Inside k page offset
+    go true y z ex ey ez q = let w : _≡_ {A = ℕ} 0 1 = cc in absurd (omega arith)
+    go false true z ex ey ez q = same 5 (a - 0x4000) (five-two k (a - 0x4000) (omega (arith, ltb-true a 0x8000 ey)) .0) q
+    go false false true ex ey ez q = same 2 (a - 0x8000) (five-two k (a - 0x8000) (omega (arith, ltb-true a 0xC000 ez)) .1) q
+    go false false false ex ey ez q = same (topPage k out) (a - 0xC000) (top-inside k out (a - 0xC000) (omega arith)) q
+
+bytes-set : (l : List ℕ) (i v : ℕ) → ((j : ℕ) → getD l j 0 < 256) → v < 256 → (j : ℕ) → getD (set l i v) j 0 < 256
+bytes-set [] i v h b j = h j
+bytes-set (x ∷ xs) zero v h b zero = b
+bytes-set (x ∷ xs) zero v h b (suc j) = h (suc j)
+bytes-set (x ∷ xs) (suc i) v h b zero = h zero
+bytes-set (x ∷ xs) (suc i) v h b (suc j) = bytes-set xs i v (λ k. h (suc k)) b j
+
+byte-mod : (x : ℕ) → x < 256 → x % 256 ≡ x
+byte-mod x h = omega arith
+
+pair-back : (m : Machine) (p v : ℕ) → withPair (withPair m p v) p (getD (m .pairs) p 0) ≡ m
+unfolding withPair
+pair-back m p v = ap (λ (l : List ℕ). record {
+  pairs = l;
+  i = m .i;
+  r = m .r;
+  switches = m .switches;
+  model = m .model;
+  attachment = m .attachment;
+  out7ffd = m .out7ffd;
+  byte36 = m .byte36;
+  remulation = m .remulation;
+  ldiremulation = m .ldiremulation;
+  outfffd = m .outfffd;
+  sound = m .sound;
+  position = m .position;
+  side59 = m .side59;
+  side = m .side;
+}) (set-set (m .pairs) p v (getD (m .pairs) p 0) ∙ set-getD (m .pairs) p 0)
+
+out-back : (m : Machine) (v : ℕ) → withOut (withOut m v) (m .out7ffd) ≡ m
+unfolding withOut
+out-back m v = refl
+
+pair-quiet : (m : Machine) (p v : ℕ) (k : Model) → quietOf k (withPair m p v) ≡ quietOf k m
+unfolding withPair
+pair-quiet m p v K48 = refl
+pair-quiet m p v K128 = refl
+
+pair-valid : (m : Machine) (p v : ℕ) → validOf (withPair m p v) ≡ validOf m
+unfolding validOf withPair
+pair-valid m p v = rw (pair-quiet m p v (m .model))
+
+-- validity looks at the last OUT on a 48K machine only
+out-valid : (m : Machine) (v : ℕ) → m .model ≡ K128 → validOf (withOut m v) ≡ validOf m
+unfolding validOf withOut
+out-valid m v e = rw e
+
+pair-model : (m : Machine) (p v : ℕ) → withPair m p v .model ≡ m .model
+unfolding withPair
+pair-model m p v = refl
+
+pair-there : (m : Machine) (p v : ℕ) → p < length (m .pairs) → getD (withPair m p v .pairs) p 0 ≡ v
+unfolding withPair
+pair-there m p v h = getD-set-same (m .pairs) p v 0 h
+
+out-model : (m : Machine) (v : ℕ) → withOut m v .model ≡ m .model
+unfolding withOut
+out-model m v = refl
+
+out-there : (m : Machine) (v : ℕ) → withOut m v .out7ffd ≡ v
+unfolding withOut
+out-there m v = refl
+
+pair-fit : (w : World) (p v : ℕ) → Fit w → Fit (record { machine = withPair (w .machine) p v; memory = w .memory })
+unfolding withPair
+pair-fit w p v ok =
+    record { valid = pair-valid (w .machine) p v ∙ ok .valid; area = ok .area; bytes = ok .bytes; out = ok .out; count = length-set (w .machine .pairs) p v ∙ ok .count }
+
+out-fit : (w : World) (v : ℕ) → Fit w → v < 256 → w .machine .model ≡ K128 → Fit (record { machine = withOut (w .machine) v; memory = w .memory })
+unfolding withOut
+out-fit w v ok b e = record { valid = out-valid (w .machine) v e ∙ ok .valid; area = ok .area; bytes = ok .bytes; out = b; count = ok .count }
+
+-- a byte in a page
+byte-holds : (v : ℕ) (w : World) (log : List ℕ) (k page offset : ℕ) → Fit w → v < 256 → Inside (w .machine .model) page offset → k * 11 + 11 ≤ length log
+    → Holds (putStep log k (byteStep (Ram page offset) v (w .memory))) k (byteStep (Ram page offset) v (w .memory)) w
+    (record { machine = w .machine; memory = store (Ram page offset) v (w .memory) })
+unfolding present placed intact
+byte-holds v w log k page offset ok b i fits =
+    let at = page * 16384 + offset in
+    let old = getD (w .memory) at 0 in
+    let inside : at < length (w .memory) = omega (arith, ok .area, i .small, i .low) in
+    record {
+      reads = stepAt-same log k _ fits;
+      whole = simp (i .mine, lt-ltb offset 16384 (i .low), lt-ltb old 256 (ok .bytes at), lt-ltb v 256 b);
+      model = refl;
+      new-there = getD-set-same (w .memory) at v 0 inside;
+      old-there = refl;
+      back = simp (byte-mod old (ok .bytes at), set-set, set-getD);
+      forth = simp (byte-mod v b);
+      before = ok;
+      after = record { valid = ok .valid; area = length-set (w .memory) at v ∙ ok .area; bytes = bytes-set (w .memory) at v (ok .bytes) b; out = ok .out; count = ok .count };
+    }
+
+pair-holds : (p v : ℕ) (w : World) (log : List ℕ) (k : ℕ) → Fit w → p ≤ 11 → k * 11 + 11 ≤ length log
+    → Holds (putStep log k (step 2 p 0 (getD (w .machine .pairs) p 0) v)) k (step 2 p 0 (getD (w .machine .pairs) p 0) v) w
+    (record { machine = withPair (w .machine) p v; memory = w .memory })
+unfolding present placed intact
+pair-holds p v w log k ok h fits =
+    record {
+      reads = stepAt-same log k _ fits;
+      whole = simp (lt-ltb p 12 (omega arith));
+      model = pair-model (w .machine) p v;
+      new-there = pair-there (w .machine) p v (omega (arith, ok .count));
+      old-there = refl;
+      back = λ j. record { machine = pair-back (w .machine) p v j; memory = w .memory };
+      forth = refl;
+      before = ok;
+      after = pair-fit w p v ok;
+    }
+
+out-holds : (v : ℕ) (w : World) (log : List ℕ) (k : ℕ) → Fit w → v < 256 → w .machine .model ≡ K128 → k * 11 + 11 ≤ length log
+    → Holds (putStep log k (step 3 0 0 (w .machine .out7ffd) v)) k (step 3 0 0 (w .machine .out7ffd) v) w
+    (record { machine = withOut (w .machine) v; memory = w .memory })
+unfolding present placed intact
+out-holds v w log k ok b e fits =
+    record {
+      reads = stepAt-same log k _ fits;
+      whole = simp (e, lt-ltb (w .machine .out7ffd) 256 (ok .out), lt-ltb v 256 b);
+      model = out-model (w .machine) v;
+      new-there = out-there (w .machine) v;
+      old-there = refl;
+      back = simp (byte-mod (w .machine .out7ffd) (ok .out), out-back);
+      forth = simp (byte-mod v b);
+      before = ok;
+      after = out-fit w v ok b e;
+    }
+
+-- a correction that is accepted, made on a start, is held by the step that it writes
+pub held : (c : Correction) (w : World) (log : List ℕ) (cap k : ℕ) → Fit w → Wide c → refusal cap w k c ≡ Accepted → k * 11 + 11 ≤ length log → Held (putStep log k (stepFor c w)) k c w
+unfolding stepFor make refusal
+held (byteAt a v) w log cap k ok wide e fits = go (placeIn (w .machine) a) refl e
+  where
+    go : (p : Place) → placeIn (w .machine) a ≡ p → romFirst p (room cap k) ≡ Accepted
+        → Holds (putStep log k (byteStep p v (w .memory))) k (byteStep p v (w .memory)) w (record { machine = w .machine; memory = store p v (w .memory) })
+    go Rom q h = absurd (never RomAddress h)
+    go (Ram page offset) q h = byte-holds v w log k page offset ok (wide .1) (place-inside (w .machine .model) (w .machine .out7ffd) a page offset (wide .0) q) fits
+held (pairTo p v) w log cap k ok wide e fits = pair-holds p v w log k ok (ltb-false 11 p (refuse-not (ltb 11 p) PairNumber (room cap k) e .0)) fits
+held (outTo v) w log cap k ok wide e fits = out-holds v w log k ok wide (out-128 (w .machine .model) (w .machine .out7ffd) (room cap k) e .0) fits
+
+pub refusal-room : (cap : ℕ) (w : World) (n : ℕ) (c : Correction) → refusal cap w n c ≡ Accepted → n < cap
+unfolding refusal
+refusal-room cap w n (byteAt a v) e = go (placeIn (w .machine) a) e
+  where
+    go : (p : Place) → romFirst p (room cap n) ≡ Accepted → n < cap
+    go Rom h = absurd (never RomAddress h)
+    go (Ram page offset) h = has-room cap n h
+refusal-room cap w n (pairTo p v) e = has-room cap n (refuse-not (ltb 11 p) PairNumber (room cap n) e .1)
+refusal-room cap w n (outTo v) e = has-room cap n (out-128 (w .machine .model) (w .machine .out7ffd) (room cap n) e .1)

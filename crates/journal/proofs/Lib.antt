@@ -1,0 +1,5 @@
+pub mod Log
+pub mod Held
+pub mod Claim
+pub mod Leaves
+pub mod Calls

@@ -1,0 +1,4 @@
+pub mod Model
+pub mod Steps
+pub mod Journal
+pub mod Claim
