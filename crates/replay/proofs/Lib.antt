@@ -1,0 +1,4 @@
+pub mod Turns
+pub mod Encode
+pub mod Order
+pub mod Refuted

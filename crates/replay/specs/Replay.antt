@@ -11,6 +11,8 @@ use Rattle.journal.specs.declared.Call.{Call}
 use Rattle.journal.specs.declared.Call.the-variants.{Byte, Pair, Out, Undo, Redo}
 use Rattle.journal.specs.Model.{World, Bench, made, emptyBench, modelAfter, modelAnswers}
 use Rattle.journal.specs.Steps.{capacity}
+use Rattle.journal.specs.Journal.{Desk, deskOn, journalCall}
+use Rattle.journal.specs.Claim.{runAfter, runAnswers}
 
 -- the call at a number: its kind, and three bytes of what it asks
 unfoldable pub callAt : List ℕ → ℕ → Call
@@ -39,3 +41,8 @@ pub record Leaves (start : World) (cap : ℕ) (calls : List Call) (b : Bench) (r
 
 abbrev pub Replayed : World → List ℕ → List Call → Done → List ℕ → List ℕ → Type 0
 Replayed start log calls r memory numbers = Leaves start (capacity log) calls (modelAfter start (capacity log) emptyBench calls) r memory numbers
+
+-- what the loop over the calls leaves, said by the calls' own definitions
+pub record Ran (b : List ℕ) (n : ℕ) (d : Desk) (r : Done) (memory log numbers : List ℕ) : Type 0 where
+  pub desk : deskOn (r .machine) memory log (r .counts) ≡ runAfter journalCall d (callsFrom b 0 n)
+  pub said : numbers ≡ map numberOf (runAnswers journalCall d (callsFrom b 0 n))

@@ -1,1 +1,100 @@
-// replay
+// Demand 3 tied to the code that runs: a list of calls, as bytes, run by the real functions over lent memory and log.
+use journal::Call;
+use journal::Counts;
+use journal::Done;
+use spectrum::Answer;
+use spectrum::Machine;
+ghost use Prim.Native.Nat.{ℕ, _+_, _*_, _≤_};
+ghost use mathlib.Core.Path.{_≡_};
+ghost use mathlib.Core.Bool.{true};
+ghost use lib.ListN.{length};
+ghost use Rattle.spectrum.specs.Numbers.{numberOf};
+ghost use Rattle.spectrum.specs.Valid.{validOf};
+ghost use Rattle.journal.specs.Journal.{deskOn};
+ghost use Rattle.replay.specs.Replay.{callAt, callsFrom, Replayed, Ran};
+
+// A log is started and every call of a list made, each on what the last one left. From any valid machine with 131,072 bytes of memory and
+// a log of any length, all is the model's: this contract is the claim.
+pub fn replay(
+    m: Machine,
+    memory: &mut [u8],
+    log: &mut [u8],
+    calls: &[u8],
+    numbers: &mut [u8],
+) -> Done
+    ensures { λ r. ⌜ (validOf m ≡ true → length (now (memory .entry)) ≡ 131072 → length (now (calls .entry)) ≡ length (now (numbers .entry)) * 4 → Replayed (record { machine = m; memory = now (memory .entry) }) (now (log .entry)) (callsFrom (now (calls .entry)) 0 (length (now (numbers .entry)))) r (now (memory .exit)) (now (numbers .exit))) ⌝ }
+{
+    m.typed();
+    let counts = journal::start(log);
+    run(m, memory, log, counts, calls, numbers)
+}
+
+// The loop over the calls.
+fn run(
+    m: Machine,
+    memory: &mut [u8],
+    log: &mut [u8],
+    counts: Counts,
+    calls: &[u8],
+    numbers: &mut [u8],
+) -> Done
+    ensures { λ r. ⌜ (length (now (calls .entry)) ≡ length (now (numbers .entry)) * 4 → Ran (now (calls .entry)) (length (now (numbers .entry))) (deskOn m (now (memory .entry)) (now (log .entry)) counts) r (now (memory .exit)) (now (log .exit)) (now (numbers .exit))) ⌝ }
+{
+    let mut state = Done {
+        answer: Answer::Accepted,
+        machine: m,
+        counts: counts,
+    };
+    let mut i = 0;
+    while i < numbers.len() {
+        if calls.len() / 4 <= i {
+            return state;
+        }
+        let call = call_at(calls, i);
+        let machine = state.machine;
+        let n = state.counts;
+        state = journal::call_on(machine, memory, log, n, call);
+        let answer = state.answer;
+        numbers[i] = number_of(answer);
+        i += 1;
+    }
+    state
+}
+
+fn two(low: u8, high: u8) -> u16
+    ensures { λ r. ⌜ r ≡ low + 256 * high ⌝ }
+{
+    (low as u16) + 256 * (high as u16)
+}
+
+// The call at a number of the list.
+fn call_at(calls: &[u8], i: usize) -> Call
+    requires { ⌜ i * 4 + 4 ≤ length (now calls) ⌝ }
+    ensures { λ r. ⌜ r ≡ callAt (now (calls .entry)) i ⌝ }
+{
+    let at = i * 4;
+    let kind = calls[at];
+    let a = calls[at + 1];
+    let b = calls[at + 2];
+    let c = calls[at + 3];
+    let w = two(a, b);
+    if kind == 0 {
+        return Call::Byte(w, c);
+    }
+    if kind == 1 {
+        return Call::Pair(c, w);
+    }
+    if kind == 2 {
+        return Call::Out(a);
+    }
+    if kind == 3 {
+        return Call::Undo;
+    }
+    Call::Redo
+}
+
+fn number_of(answer: Answer) -> u8
+    ensures { λ r. ⌜ r ≡ numberOf answer ⌝ }
+{
+    spectrum::number(answer) as u8
+}

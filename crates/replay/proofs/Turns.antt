@@ -1,0 +1,182 @@
+-- The loop of a run: what is left of the calls, made on the desk as it is, gives what all of them give on the first desk; and the claim.
+use Prim.Native.Nat.{ℕ, zero, suc, _+_, _-_, _*_, _≤_, _<_}
+use mathlib.Core.Path.{_≡_, refl, sym, ap, subst, _∙_}
+use mathlib.Core.Bool.{Bool, true, false}
+use mathlib.Core.List.{List, [], _∷_, _++_, append-nil, map}
+use native.Mathlib.Omega.{arith}
+use native.Mathlib.Numerals.{add-one}
+use lib.Dec.{eqb}
+use lib.ListN.{length, getD, set, take, replicate, length-set, length-replicate}
+use lib.Seq.{take-suc-set, append-snoc, take-all}
+use borrow.Author.Tests.{eq-eqb, ne-eqb}
+use Rattle.slices.specs.Choose.{choose}
+use Rattle.spectrum.specs.declared.Machine.{Machine}
+use Rattle.spectrum.specs.declared.Refusal.{Refusal}
+use Rattle.spectrum.specs.declared.Refusal.the-variants.{AreaLength, FileShort, UnknownVersion, ModeNotCarried, InterruptMode, CounterRange, Byte60, BlockCut, BlockNumber, BlockTwice, MalformedData, UnpackedLength, BlockMissing, EndMarker, InvalidMachine, MemoryLength, OutputShort, RomAddress, OutOn48k, PagingLocked, JournalFull, NothingToMove, StepDamaged, CountsDisagree, PageNotOwned, RomLength, PairNumber}
+use Rattle.spectrum.specs.declared.Answer.{Answer}
+use Rattle.spectrum.specs.declared.Answer.the-variants.{Accepted, Refused}
+use Rattle.spectrum.specs.Numbers.{numberOf, refusalNumber}
+use Rattle.journal.specs.declared.Done.{Done}
+use Rattle.journal.specs.declared.Counts.{Counts}
+use Rattle.journal.specs.declared.Call.{Call}
+use Rattle.journal.specs.declared.Call.the-variants.{Byte, Pair, Out, Undo, Redo}
+use Rattle.journal.specs.Model.{World, emptyBench, modelAfter}
+use Rattle.journal.specs.Steps.{capacity}
+use Rattle.journal.specs.Journal.{Desk, Did, didOf, deskOn, journalCall, startCounts}
+use Rattle.journal.specs.Claim.{Fit, WideCall, WideCalls, started, runAfter, runAnswers}
+use Rattle.journal.proofs.Claim.{claim}
+use Rattle.replay.specs.Replay.{callAt, callsFrom, Leaves, Replayed, Ran}
+
+abbrev pub deskIn : Done → List ℕ → List ℕ → Desk
+deskIn r memory log = deskOn (r .machine) memory log (r .counts)
+
+pub record Going (calls : List ℕ) (d₀ d : Desk) (numbers₀ numbers : List ℕ) (i : ℕ) : Type 0 where
+  pub reach : i ≤ length numbers
+  pub long : length numbers ≡ length numbers₀
+  pub rest : runAfter journalCall d (callsFrom calls i (length numbers₀ - i)) ≡ runAfter journalCall d₀ (callsFrom calls 0 (length numbers₀))
+  pub said : take i numbers ++ map numberOf (runAnswers journalCall d (callsFrom calls i (length numbers₀ - i))) ≡ map numberOf (runAnswers journalCall d₀ (callsFrom calls 0 (length numbers₀)))
+
+calls-more : (b : List ℕ) (i n : ℕ) → i < n → callsFrom b i (n - i) ≡ callAt b i ∷ callsFrom b (i + 1) (n - (i + 1))
+calls-more b i n h =
+    let q : n - i ≡ suc (n - (i + 1)) = omega arith in
+    ap (callsFrom b i) q ∙ ap (λ (k : ℕ). callAt b i ∷ callsFrom b k (n - (i + 1))) (sym (add-one i))
+
+pub going-none : (calls : List ℕ) (d : Desk) (numbers : List ℕ) → Going calls d d numbers numbers 0
+going-none calls d numbers =
+    let q : length numbers - 0 ≡ length numbers = omega arith in
+    record { reach = omega arith; long = refl; rest = rw q; said = rw q }
+
+pub going-more : (calls : List ℕ) (d₀ d : Desk) (numbers₀ numbers : List ℕ) (i : ℕ) (call : Call) (r : Done) (memory log : List ℕ) (v : ℕ)
+    → Going calls d₀ d numbers₀ numbers i → i < length numbers → call ≡ callAt calls i → didOf r memory log ≡ journalCall call d → v ≡ numberOf (r .answer)
+    → Going calls d₀ (deskIn r memory log) numbers₀ (set numbers i v) (i + 1)
+going-more calls d₀ d numbers₀ numbers i call r memory log v g h ec e ev =
+    let n = length numbers₀ in
+    let h2 : i < n = omega (arith, g .long) in
+    let left = callsFrom calls (i + 1) (n - (i + 1)) in
+    let e2 : didOf r memory log ≡ journalCall (callAt calls i) d = e ∙ ap (λ (x : Call). journalCall x d) ec in
+    let more = map numberOf (runAnswers journalCall (deskIn r memory log) left) in
+    record {
+      reach = simp length-set (omega arith);
+      long = length-set numbers i v ∙ g .long;
+      rest = ap (λ (x : Did). runAfter journalCall (x .desk) left) e2 ∙ sym (ap (runAfter journalCall d) (calls-more calls i n h2)) ∙ g .rest;
+      said =
+          ap (λ (k : ℕ). take k (set numbers i v) ++ more) (add-one i)
+          ∙ ap (λ (l : List ℕ). l ++ more) (take-suc-set numbers i v h)
+          ∙ append-snoc (take i numbers) v more
+          ∙ ap (λ (x : ℕ). take i numbers ++ (x ∷ more)) ev
+          ∙ ap (λ (x : Did). take i numbers ++ (numberOf (x .answer) ∷ map numberOf (runAnswers journalCall (x .desk) left))) e2
+          ∙ sym (ap (λ (l : List Call). take i numbers ++ map numberOf (runAnswers journalCall d l)) (calls-more calls i n h2))
+          ∙ g .said;
+    }
+
+pub going-done : (calls : List ℕ) (d₀ : Desk) (r : Done) (memory log numbers₀ numbers : List ℕ) (i : ℕ)
+    → Going calls d₀ (deskIn r memory log) numbers₀ numbers i → length numbers ≤ i → Ran calls (length numbers₀) d₀ r memory log numbers
+going-done calls d₀ r memory log numbers₀ numbers i g h =
+    let z : length numbers₀ - i ≡ 0 = omega (arith, g .long) in
+    let a : take i numbers ++ [] ≡ map numberOf (runAnswers journalCall d₀ (callsFrom calls 0 (length numbers₀))) = rw z at (g .said) in
+    record { desk = rw z at (g .rest); said = sym (take-all i numbers h) ∙ sym (append-nil (take i numbers)) ∙ a }
+
+two-wide : (a b : ℕ) → a < 256 → b < 256 → a + 256 * b < 65536
+two-wide a b h g = omega arith
+
+wide-at : (b : List ℕ) → ((i : ℕ) → getD b i 0 < 256) → (i : ℕ) → WideCall (callAt b i)
+unfolding callAt
+wide-at b h i = go (eqb (getD b (i * 4) 0) 0) (eqb (getD b (i * 4) 0) 1) (eqb (getD b (i * 4) 0) 2) (eqb (getD b (i * 4) 0) 3)
+  where
+    w : ℕ
+    w = getD b (i * 4 + 1) 0 + 256 * getD b (i * 4 + 2) 0
+
+    ws : w < 65536
+    ws = two-wide _ _ (h (i * 4 + 1)) (h (i * 4 + 2))
+
+    go : (p q r s : Bool)
+        → WideCall (choose p (Byte w (getD b (i * 4 + 3) 0)) (choose q (Pair (getD b (i * 4 + 3) 0) w) (choose r (Out (getD b (i * 4 + 1) 0)) (choose s Undo Redo))))
+    go true q r s = (ws, h (i * 4 + 3))
+    go false true r s = ws
+    go false false true s = h (i * 4 + 1)
+    go false false false true = tt
+    go false false false false = tt
+
+wide-all : (b : List ℕ) → ((i : ℕ) → getD b i 0 < 256) → (i k : ℕ) → WideCalls (callsFrom b i k)
+wide-all b h i zero = tt
+wide-all b h i (suc k) = (wide-at b h i, wide-all b h (suc i) k)
+
+capacity-zeros : (log : List ℕ) → capacity (replicate (length log) 0) ≡ capacity log
+unfolding capacity
+capacity-zeros log = rw (length-replicate {A = ℕ} (length log) 0)
+
+-- the claim of the code's own run
+pub replayed : (m : Machine) (memory log zeros calls : List ℕ) (n : ℕ) (counts : Counts) (r : Done) (memory′ log′ numbers : List ℕ) → Fit (record { machine = m; memory = memory })
+    → ((j : ℕ) → getD calls j 0 < 256) → counts ≡ startCounts → zeros ≡ replicate (length log) 0 → Ran calls n (deskOn m memory zeros counts) r memory′ log′ numbers
+    → Replayed (record { machine = m; memory = memory }) log (callsFrom calls 0 n) r memory′ numbers
+replayed m memory log zeros calls n counts r memory′ log′ numbers ok bytes ec ez g =
+    let start : World = record { machine = m; memory = memory } in
+    let q = claim start zeros ok (callsFrom calls 0 n) (wide-all calls bytes 0 n) in
+    let c : capacity zeros ≡ capacity log = ap capacity ez ∙ capacity-zeros log in
+    let d : deskOn m memory zeros counts ≡ started start zeros = ap (deskOn m memory zeros) ec in
+    let e : deskIn r memory′ log′ ≡ runAfter journalCall (started start zeros) (callsFrom calls 0 n) = g .desk ∙ ap (λ (x : Desk). runAfter journalCall x (callsFrom calls 0 n)) d in
+    subst (λ (k : ℕ). Leaves start k (callsFrom calls 0 n) (modelAfter start k emptyBench (callsFrom calls 0 n)) r memory′ numbers) c
+    (record {
+      machine = ap (λ (x : Desk). x .world .machine) e ∙ ap (λ (w : World). w .machine) (q .world);
+      memory-is = ap (λ (x : Desk). x .world .memory) e ∙ ap (λ (w : World). w .memory) (q .world);
+      standing = ap (λ (x : Desk). x .standing) e ∙ q .standing;
+      total = ap (λ (x : Desk). x .total) e ∙ q .total;
+      answered = g .said ∙ ap (λ (x : Desk). map numberOf (runAnswers journalCall x (callsFrom calls 0 n))) d ∙ ap (map numberOf) (q .answers);
+    })
+
+-- a call from its bytes
+module _ (b : List ℕ) (i w : ℕ) (ew : w ≡ getD b (i * 4 + 1) 0 + 256 * getD b (i * 4 + 2) 0) where
+  pub at-byte : getD b (i * 4) 0 ≡ 0 → Byte w (getD b (i * 4 + 3) 0) ≡ callAt b i
+  unfolding callAt
+  at-byte h = rw ew (simp (eq-eqb (getD b (i * 4) 0) 0 h))
+
+  pub at-pair : (getD b (i * 4) 0 ≡ 0 → ⊥) → getD b (i * 4) 0 ≡ 1 → Pair (getD b (i * 4 + 3) 0) w ≡ callAt b i
+  unfolding callAt
+  at-pair h g = rw ew (simp (ne-eqb (getD b (i * 4) 0) 0 h, eq-eqb (getD b (i * 4) 0) 1 g))
+
+module _ (b : List ℕ) (i : ℕ) (h : getD b (i * 4) 0 ≡ 0 → ⊥) (g : getD b (i * 4) 0 ≡ 1 → ⊥) where
+  pub at-out : getD b (i * 4) 0 ≡ 2 → Out (getD b (i * 4 + 1) 0) ≡ callAt b i
+  unfolding callAt
+  at-out k = simp (ne-eqb (getD b (i * 4) 0) 0 h, ne-eqb (getD b (i * 4) 0) 1 g, eq-eqb (getD b (i * 4) 0) 2 k)
+
+  pub at-undo : (getD b (i * 4) 0 ≡ 2 → ⊥) → getD b (i * 4) 0 ≡ 3 → Undo ≡ callAt b i
+  unfolding callAt
+  at-undo k l = simp (ne-eqb (getD b (i * 4) 0) 0 h, ne-eqb (getD b (i * 4) 0) 1 g, ne-eqb (getD b (i * 4) 0) 2 k, eq-eqb (getD b (i * 4) 0) 3 l)
+
+  pub at-redo : (getD b (i * 4) 0 ≡ 2 → ⊥) → (getD b (i * 4) 0 ≡ 3 → ⊥) → Redo ≡ callAt b i
+  unfolding callAt
+  at-redo k l = simp (ne-eqb (getD b (i * 4) 0) 0 h, ne-eqb (getD b (i * 4) 0) 1 g, ne-eqb (getD b (i * 4) 0) 2 k, ne-eqb (getD b (i * 4) 0) 3 l)
+
+-- the numbers of the table are bytes
+refusal-small : (w : Refusal) → refusalNumber w < 256
+refusal-small AreaLength = omega arith
+refusal-small FileShort = omega arith
+refusal-small UnknownVersion = omega arith
+refusal-small ModeNotCarried = omega arith
+refusal-small InterruptMode = omega arith
+refusal-small CounterRange = omega arith
+refusal-small Byte60 = omega arith
+refusal-small BlockCut = omega arith
+refusal-small BlockNumber = omega arith
+refusal-small BlockTwice = omega arith
+refusal-small MalformedData = omega arith
+refusal-small UnpackedLength = omega arith
+refusal-small BlockMissing = omega arith
+refusal-small EndMarker = omega arith
+refusal-small InvalidMachine = omega arith
+refusal-small MemoryLength = omega arith
+refusal-small OutputShort = omega arith
+refusal-small RomAddress = omega arith
+refusal-small OutOn48k = omega arith
+refusal-small PagingLocked = omega arith
+refusal-small JournalFull = omega arith
+refusal-small NothingToMove = omega arith
+refusal-small StepDamaged = omega arith
+refusal-small CountsDisagree = omega arith
+refusal-small PageNotOwned = omega arith
+refusal-small RomLength = omega arith
+refusal-small PairNumber = omega arith
+
+pub number-small : (a : Answer) → numberOf a < 256
+number-small Accepted = omega arith
+number-small (Refused w) = refusal-small w
