@@ -13,9 +13,20 @@ pub type Contender<'a> = Box<dyn FnMut() + 'a>;
 
 /// The median nanoseconds of one call of each contender.
 pub fn medians(contenders: &mut [Contender], rng: &mut Rng) -> Vec<f64> {
-    let repeats: Vec<u32> = contenders.iter_mut().map(repetitions).collect();
-    let mut times = vec![Vec::with_capacity(ROUNDS); contenders.len()];
-    for _ in 0..ROUNDS {
+    medians_of(ROUNDS, LEAST, contenders, rng)
+}
+
+/// The same with so many measurements, none shorter than `least`.
+pub fn medians_of(
+    rounds: usize,
+    least: Duration,
+    contenders: &mut [Contender],
+    rng: &mut Rng,
+) -> Vec<f64> {
+    let repeats = contenders.iter_mut().map(|each| repetitions(each, least));
+    let repeats: Vec<u32> = repeats.collect();
+    let mut times = vec![Vec::with_capacity(rounds); contenders.len()];
+    for _ in 0..rounds {
         for which in shuffled(contenders.len(), rng) {
             let time = measure(&mut contenders[which], repeats[which]);
             times[which].push(time.as_nanos() as f64 / f64::from(repeats[which]));
@@ -33,9 +44,9 @@ fn measure(contender: &mut Contender, repeats: u32) -> Duration {
 }
 
 /// How many calls make one measurement long enough.
-fn repetitions(contender: &mut Contender) -> u32 {
+fn repetitions(contender: &mut Contender, least: Duration) -> u32 {
     let mut repeats = 1;
-    while measure(contender, repeats) < LEAST * 2 {
+    while measure(contender, repeats) < least * 2 {
         repeats *= 2;
     }
     repeats

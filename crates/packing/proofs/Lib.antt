@@ -1,4 +1,5 @@
 pub mod UnpackSteps
 pub mod Until
 pub mod Runs
+pub mod Blocks
 pub mod PackSteps

@@ -5,7 +5,7 @@ use native.Mathlib.Omega.{arith}
 use mathlib.Core.Path.{_≡_, refl, sym, ap, subst, _∙_}
 use mathlib.Core.Bool.{Bool, true, false}
 use mathlib.Core.List.{List, [], _∷_, _++_, append-assoc, append-nil}
-use lib.ListN.{length, getD, take, drop, replicate, length-append, length-replicate, drop-of-length-le}
+use lib.ListN.{length, getD, take, drop, replicate, length-append, length-replicate, length-drop, drop-of-length-le}
 use lib.Seq.{drop-drop, drop-cons, take-at, length-take-le}
 use lib.Dec.{leb}
 use borrow.Author.Tests.{le-leb, lt-leb}
@@ -15,7 +15,7 @@ use Rattle.packing.specs.Packed.{bytes, front, unpacked, packed}
 use Rattle.packing.specs.Packed.Steps.{run-code, single-code, plain-code, short-code, packed-nil}
 use Rattle.packing.specs.Packed.Promise.{unpacked-packed, packed-short}
 use Rattle.packing.specs.Packing.{Packs}
-use Rattle.packing.specs.Inner.{runAt, RunLeft, Put, PackedInto}
+use Rattle.packing.specs.Inner.{runAt, RunLeft, Put, Copied, PackedInto}
 use Rattle.packing.specs.declared.Fit.{Fit}
 use Rattle.packing.specs.declared.Fit.the-variants.{Length, TooShort}
 
@@ -107,6 +107,12 @@ module _ (s d₀ d : List ℕ) (i o : ℕ) (g : Packing s d₀ d i o) where
             ∙ ap (λ (l : List ℕ). l ++ packed (drop j s)) (sym (p .wrote) ∙ ap (λ (m : ℕ). take m d′) e);
       }
 
+  again-copied : (d′ : List ℕ) (k : ℕ) → Copied s i d o k d′ → Packing s d₀ d′ (i + k) (o + k)
+  again-copied d′ k p =
+      again (take k (drop i s)) d′ (i + k) (o + k) (record { step = p .step; inside = p .within }) (p .stored)
+      (ap (λ (n : ℕ). o + n) (length-take-le k (drop i s) (simp length-drop (omega (arith, p .within)))))
+      (omega (arith, p .room, p .stored .long))
+
   short : (ws : List ℕ) (j : ℕ) → Next s i ws j → length d < o + length ws → PackedInto s d₀ TooShort d
   short ws j n h =
       let l : length (take o d) ≡ o = length-take-le o d (g .room) in
@@ -130,7 +136,7 @@ module _ (s d₀ d : List ℕ) (i o : ℕ) (g : Packing s d₀ d i o) where
       }
 
   module _ (d′ : List ℕ) (h : i < length s) where
-    pub again-unlike : Put d o (getD s i 0 ∷ []) d′ → (getD s i 0 ≡ 237 → ⊥) → runAt s i ≡ 1 → o < length d → Packing s d₀ d′ (i + 1) (o + 1)
+    again-unlike : Put d o (getD s i 0 ∷ []) d′ → (getD s i 0 ≡ 237 → ⊥) → runAt s i ≡ 1 → o < length d → Packing s d₀ d′ (i + 1) (o + 1)
     again-unlike p e k r = again _ d′ (i + 1) (o + 1) (next-unlike s i h e k) p refl (omega arith)
 
     module _ (r : ℕ) (l : RunLeft s i r) where
@@ -168,6 +174,14 @@ module _ (s d₀ d : List ℕ) (i o : ℕ) (g : Packing s d₀ d i o) where
 
       pub short-short : (getD s i 0 ≡ 237 → ⊥) → r < 5 → length d < o + r → PackedInto s d₀ TooShort d
       short-short e k m = short _ (i + r) (next-short s i h r l e k) (omega (arith, length-replicate r (getD s i 0)))
+
+-- a plain byte, and those after it
+pub again-plain : (s d₀ d d′ d″ : List ℕ) (i o k : ℕ) → Packing s d₀ d i o → Put d o (getD s i 0 ∷ []) d′ → Copied s (i + 1) d′ (o + 1) k d″
+    → i < length s → (getD s i 0 ≡ 237 → ⊥) → runAt s i ≡ 1 → o < length d → Packing s d₀ d″ (i + (1 + k)) (o + (1 + k))
+again-plain s d₀ d d′ d″ i o k g p q h e u r =
+    let a : i + 1 + k ≡ i + (1 + k) = omega arith in
+    let b : o + 1 + k ≡ o + (1 + k) = omega arith in
+    rw (sym a, sym b) (again-copied s d₀ d′ (i + 1) (o + 1) (again-unlike s d₀ d i o g d′ h p e u r) d″ k q)
 
 module _ (s d₀ : List ℕ) (r : Fit) (d : List ℕ) (g : PackedInto s d₀ r d) (same : length d ≡ length d₀) where
   pub packs-long : (n : ℕ) (l : List ℕ) → r ≡ Length n → l ≡ take n d ++ replicate (length d - n) 0 → Packs (packed s) (length d₀) (Length n) l

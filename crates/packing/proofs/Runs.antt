@@ -38,7 +38,7 @@ pub put-4 : (d : List ℕ) (o a b x y : ℕ) → o + 4 ≤ length d → Put d o 
 put-4 d o a b x y h = simp towards-suc (put-sets d (a ∷ b ∷ x ∷ y ∷ []) o h)
 
 -- of what was written, the front was
-put-less : (d₀ d us vs : List ℕ) (o : ℕ) → o + length us ≤ length d₀ → Put d₀ o (us ++ vs) d → Put d₀ o us d
+pub put-less : (d₀ d us vs : List ℕ) (o : ℕ) → o + length us ≤ length d₀ → Put d₀ o (us ++ vs) d → Put d₀ o us d
 put-less d₀ d us vs o h p =
     let l : length (us ++ vs) ≡ length us + length vs = length-append us vs in
     record {
@@ -69,7 +69,7 @@ pub put-up-to-16 : (d l : List ℕ) (o n v : ℕ) → o + n ≤ length d → n �
 put-up-to-16 d l o n v g k h e = let r : o + 16 ≤ length d = omega arith in put-fewer d _ o n 16 v k r (put-part d l o 16 v r e)
 
 -- the bytes of a run
-front-at : (x : ℕ) (xs : List ℕ) (k : ℕ) → k < front x xs → getD xs k 0 ≡ x
+pub front-at : (x : ℕ) (xs : List ℕ) (k : ℕ) → k < front x xs → getD xs k 0 ≡ x
 front-at x [] k h = absurd (not-suc-le-zero h)
 front-at x (y ∷ ys) zero h = go (eqb y x) refl h
   where

@@ -149,7 +149,7 @@ pub record Looked (b : List ℕ) (t : Bool) (j : ℕ) : Type 0 where
 pub looked-none : (b : List ℕ) → Looked b false 0
 looked-none b = record { reach = omega arith; none = λ e i h. absurd (not-suc-le-zero h) }
 
-neither : (t u : Bool) → t || u ≡ false → (t ≡ false) × (u ≡ false)
+pub neither : (t u : Bool) → t || u ≡ false → (t ≡ false) × (u ≡ false)
 neither false u e = (refl, e)
 neither true u e = let z : _≡_ {A = ℕ} 0 1 = cc in absurd (omega arith)
 

@@ -55,6 +55,23 @@ pub record Put (d₀ : List ℕ) (o : ℕ) (ws d : List ℕ) : Type 0 where
   pub long : length d ≡ length d₀
   pub wrote : take (o + length ws) d ≡ take o d₀ ++ ws
 
+-- x packs to itself, y being the next byte and z the fourth after it: it is not ED, and its run has at most four bytes
+pub record Plain (x y z : ℕ) : Type 0 where
+  pub other : x ≡ ED → ⊥
+  pub ends : x ≡ y → x ≡ z → ⊥
+
+-- the first k bytes of a block do; the other blocks are those one and four bytes on
+pub record PlainUpTo (block next fourth : List ℕ) (k : ℕ) : Type 0 where
+  pub most : k ≤ 16
+  pub plain : (j : ℕ) → j < k → Plain (getD block j 0) (getD next j 0) (getD fourth j 0)
+
+-- k bytes of s from i on, which pack to themselves, were written over d₀ from o on
+pub record Copied (s : List ℕ) (i : ℕ) (d₀ : List ℕ) (o k : ℕ) (d : List ℕ) : Type 0 where
+  pub within : i + k ≤ length s
+  pub room : o + k ≤ length d
+  pub step : packed (drop i s) ≡ take k (drop i s) ++ packed (drop (i + k) s)
+  pub stored : Put d₀ o (take k (drop i s)) d
+
 -- the answer r, and the part d, which was d₀: settled where it fits
 pub record PackedInto (s d₀ : List ℕ) (r : Fit) (d : List ℕ) : Type 0 where
   pub answer : r ≡ fits (packed s) (length d₀)

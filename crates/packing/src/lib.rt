@@ -8,7 +8,7 @@ ghost use lib.ListN.{length, getD, drop, replicate};
 ghost use Rattle.packing.specs.Packed.{pair, unpacked, packed};
 ghost use Rattle.packing.specs.Unpacking.{Unpacks};
 ghost use Rattle.packing.specs.Packing.{Packs};
-ghost use Rattle.packing.specs.Inner.{over, Into, Until, Moved, MovedUpTo, runAt, RunLeft, Put, PackedInto};
+ghost use Rattle.packing.specs.Inner.{over, Into, Until, Moved, MovedUpTo, runAt, RunLeft, Put, Plain, PlainUpTo, Copied, PackedInto};
 
 // The answer of unpacking.
 pub enum Unpacked {
@@ -261,8 +261,9 @@ fn pack_into(src: &[u8], dst: &mut [u8]) -> Fit
                 return Fit::TooShort;
             }
             put_one(dst, o, v);
-            o += 1;
-            i += 1;
+            let k = 1 + plain_bytes(src, i + 1, dst, o + 1);
+            o += k;
+            i += k;
         } else {
             let n = run_at(src, i);
             if 5 <= n {
@@ -284,6 +285,61 @@ fn pack_into(src: &[u8], dst: &mut [u8]) -> Fit
         }
     }
     Fit::Length(o)
+}
+
+// Bytes of src from i on that pack to themselves, stored into dst from o on; how many. They are looked at and stored in blocks.
+fn plain_bytes(src: &[u8], i: usize, dst: &mut [u8], o: usize) -> usize
+    requires { ⌜ (i ≤ length (now src)) × (o ≤ length (now dst)) ⌝ }
+    ensures { λ r. ⌜ Copied (now (src .entry)) i (now (dst .entry)) o r (now (dst .exit)) ⌝ }
+{
+    let m = slices::least(src.len() - i, dst.len() - o);
+    let mut k: usize = 0;
+    while k + 20 <= m {
+        let p = i + k;
+        let block = slices::part16(src, p);
+        let next = slices::part16(src, p + 1);
+        let fourth = slices::part16(src, p + 4);
+        slices::put16(dst, o + k, &block);
+        if any_code(block, next, fourth) {
+            return k + until_code(block, next, fourth);
+        }
+        k += 16;
+    }
+    k
+}
+
+// Whether a code may begin in a block, given the blocks one and four bytes on; where it says no, none does.
+fn any_code(block: [u8; 16], next: [u8; 16], fourth: [u8; 16]) -> bool
+    ensures { λ r. ⌜ (r ≡ false → PlainUpTo block next fourth 16) ⌝ }
+{
+    let mut any = false;
+    let mut j = 0;
+    while j < 16 {
+        any = any | may_code(block[j], next[j], fourth[j]);
+        j += 1;
+    }
+    any
+}
+
+// How many bytes of a block come before a code, at least.
+fn until_code(block: [u8; 16], next: [u8; 16], fourth: [u8; 16]) -> usize
+    ensures { λ r. ⌜ PlainUpTo block next fourth r ⌝ }
+{
+    let mut j = 0;
+    while j < 16 {
+        if may_code(block[j], next[j], fourth[j]) {
+            return j;
+        }
+        j += 1;
+    }
+    j
+}
+
+// Whether a code may begin at x, y being the next byte and z the fourth after x; where it says no, x is plain.
+fn may_code(x: u8, y: u8, z: u8) -> bool
+    ensures { λ r. ⌜ (r ≡ false → Plain x y z) ⌝ }
+{
+    (x == 237) | ((x == y) & (x == z))
 }
 
 // The length of src packed.

@@ -1,1 +1,2 @@
 pub mod FileSteps
+pub mod CallSteps

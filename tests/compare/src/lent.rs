@@ -56,8 +56,8 @@ impl Lent {
         &mut self.buffer[GUARD..GUARD + self.length]
     }
 
-    /// What is wrong with the part or its guards, if anything, after a call.
-    pub fn difference(&self, expected: &[u8]) -> Option<String> {
+    /// What is wrong with the guards, if anything, after a call.
+    pub fn guards(&self) -> Option<String> {
         let buffer = black_box(&self.buffer);
         let end = GUARD + self.length;
         for at in (0..GUARD).chain(end..end + GUARD) {
@@ -66,7 +66,15 @@ impl Lent {
                 return Some(format!("guard byte at {place} is now {:02X}", buffer[at]));
             }
         }
-        let part = &buffer[GUARD..end];
+        None
+    }
+
+    /// What is wrong with the part or its guards, if anything, after a call.
+    pub fn difference(&self, expected: &[u8]) -> Option<String> {
+        if let Some(guards) = self.guards() {
+            return Some(guards);
+        }
+        let part = self.part();
         if part == expected {
             return None;
         }

@@ -2,6 +2,7 @@
 //! library under test, and the data they are compared and timed on.
 #![forbid(unsafe_code)]
 
+pub mod journal;
 pub mod machine;
 pub mod memory;
 pub mod packing;

@@ -1,4 +1,4 @@
-//! The numbers that reading and writing answer.
+//! The numbers that the calls answer.
 
 #[derive(Debug, Clone, Copy, PartialEq, Eq)]
 pub enum Refusal {
@@ -19,6 +19,16 @@ pub enum Refusal {
     Machine = 20,
     Area = 21,
     Output = 22,
+    Address = 23,
+    OutOn48K = 24,
+    Locked = 25,
+    Full = 26,
+    Nothing = 27,
+    Damaged = 28,
+    Numbers = 29,
+    Page = 30,
+    Rom = 31,
+    Pair = 32,
 }
 
 /// The answer of an accepted call.

@@ -1,7 +1,7 @@
-use Rattle.packing.proofs.PackSteps.{Packing, packing-none, packed-all, again-unlike, again-run-ed, again-run, again-single, again-last, again-short, short-unlike, short-run-ed, short-run, short-single, short-last, short-short}
-use Prim.Native.Nat.{_-_}
-use lib.ListN.{length}
 use borrow.Author.Needs.{needs}
+use lib.ListN.{length}
+use Prim.Native.Nat.{_-_}
+use Rattle.packing.proofs.PackSteps.{Packing, packing-none, packed-all, again-plain, again-run-ed, again-run, again-single, again-last, again-short, short-unlike, short-run-ed, short-run, short-single, short-last, short-short}
 use Rattle.packing.proofs.pack_into.Statement.{statement}
 use Rattle.packing.proofs.pack_into.Tie as tie
 
@@ -112,6 +112,18 @@ returns-4 c =
 put-one-requires-2 : tie.Need-put-one-requires-2 Inv-loop μ-loop
 put-one-requires-2 c κs = search needs
 
+add-plain-bytes : tie.Need-add-plain-bytes Inv-loop μ-loop
+add-plain-bytes c = search needs
+
+add-plain-bytes-2 : tie.Need-add-plain-bytes-2 Inv-loop μ-loop
+add-plain-bytes-2 c = search needs
+
+plain-bytes-requires : tie.Need-plain-bytes-requires Inv-loop μ-loop
+plain-bytes-requires c κs = search needs
+
+add-k : tie.Need-add-k Inv-loop μ-loop
+add-k c = search needs
+
 add-o-4 : tie.Need-add-o-4 Inv-loop μ-loop
 add-o-4 c = search needs
 
@@ -123,9 +135,11 @@ loop-less-4 c = search needs
 
 loop-again-4 : tie.Need-loop-again-4 Inv-loop μ-loop
 loop-again-4 c =
-    let b = c .before .before .before .before .before in
+    let a = c .before .before in
+    let p = a .before .before .before .before in
+    let b = p .before .before .before in
     let u = b .before .unlike-next .ensures (b .if7 .taken) in
-    search again-unlike
+    again-plain _ _ _ _ _ _ _ _ (b .before .before .before .before .before .loop .inv) (p .put-one2 .ensures) (a .plain-bytes .ensures) (search needs) (b .before .before .if1 .left) u (search needs)
 
 run-at-requires-2 : tie.Need-run-at-requires-2 Inv-loop μ-loop
 run-at-requires-2 c κs = search needs
@@ -220,6 +234,10 @@ pack-into-spec =
     same-length-4
     returns-4
     put-one-requires-2
+    add-plain-bytes
+    add-plain-bytes-2
+    plain-bytes-requires
+    add-k
     add-o-4
     add-i-4
     loop-less-4

@@ -1,0 +1,59 @@
+use Prim.Native.Nat.{_-_}
+use borrow.Author.Needs.{needs}
+use Rattle.packing.proofs.Blocks.{plain-none, plain-more}
+use Rattle.packing.specs.Inner.{PlainUpTo}
+use Rattle.packing.proofs.until_code.Statement.{statement}
+use Rattle.packing.proofs.until_code.Tie as tie
+
+abbrev Inv-loop : tie.InvT-loop
+Inv-loop block next fourth j₀ j = PlainUpTo block next fourth j
+
+abbrev μ-loop : tie.MeasureT-loop
+μ-loop block next fourth j₀ j = 16 - j
+
+loop-holds : tie.Need-loop-holds Inv-loop μ-loop
+loop-holds c = search plain-none
+
+array-read-may-code : tie.Need-array-read-may-code Inv-loop μ-loop
+array-read-may-code c = search needs
+
+array-read-may-code-2 : tie.Need-array-read-may-code-2 Inv-loop μ-loop
+array-read-may-code-2 c = search needs
+
+array-read-may-code-3 : tie.Need-array-read-may-code-3 Inv-loop μ-loop
+array-read-may-code-3 c = search needs
+
+may-code-requires : tie.Need-may-code-requires Inv-loop μ-loop
+may-code-requires c κs = search needs
+
+returns : tie.Need-returns Inv-loop μ-loop
+returns c = search needs
+
+add-j : tie.Need-add-j Inv-loop μ-loop
+add-j c = search needs
+
+loop-less : tie.Need-loop-less Inv-loop μ-loop
+loop-less c = search needs
+
+loop-again : tie.Need-loop-again Inv-loop μ-loop
+loop-again c = search plain-more
+
+returns-2 : tie.Need-returns-2 Inv-loop μ-loop
+returns-2 c = search needs
+
+pub until-code-spec : {M : Type 1} → statement M
+until-code-spec =
+    tie.close
+    (tie.spec
+    Inv-loop
+    μ-loop
+    loop-holds
+    array-read-may-code
+    array-read-may-code-2
+    array-read-may-code-3
+    may-code-requires
+    returns
+    add-j
+    loop-less
+    loop-again
+    returns-2)

@@ -1,0 +1,79 @@
+//! One call on any header, area, log and numbers, compared with the rules: answer and every byte.
+
+use super::library::{answer, outcome, Library};
+use super::seen::{Function, Seen};
+use compare::report::{hex, Group, Outcome};
+use reference::journal::{call, Buffers, Call, Step};
+use reference::machine::HEADER;
+use reference::memory::MEMORY;
+
+/// Both sides of a comparison. A group changes what is lent, but the area only through the checker.
+pub struct Checker {
+    pub library: Library,
+    pub seen: Seen,
+    pub lent: Buffers,
+}
+
+impl Checker {
+    pub fn new(seed: u64) -> Checker {
+        let lent = Buffers {
+            header: vec![0; HEADER],
+            area: vec![0; MEMORY],
+            log: Vec::new(),
+            standing: 0,
+            total: 0,
+        };
+        Checker {
+            library: Library::new(seed),
+            seen: Seen::new(),
+            lent,
+        }
+    }
+
+    /// The area of both sides from now on.
+    pub fn lend_area(&mut self, area: Vec<u8>) {
+        self.library.lend_area(&area);
+        self.lent.area = area;
+    }
+
+    /// Gives the place that a step names a value on both sides.
+    pub fn put(&mut self, step: &Step, value: u16) {
+        self.lent.put(step, value);
+        if step.tag == 1 {
+            let place = usize::from(step.index) * 16_384 + usize::from(step.offset);
+            self.library.area.part_mut()[place] = value as u8;
+        }
+    }
+
+    /// Makes a call on what is lent, and answers the number.
+    pub fn call(&mut self, group: &mut Group, asked: Call) -> Result<u32, String> {
+        group.inputs += 1;
+        let before = &self.lent;
+        let (standing, total) = (before.standing, before.total);
+        let library = &mut self.library;
+        library.lend(&before.header, &before.log, standing, total);
+        let (header, log) = (before.header.clone(), before.log.clone());
+        let number = call(&mut self.lent, asked);
+        let given = library.call(asked);
+        self.seen.add(Function::of(asked), given);
+        let mut wrong = Vec::new();
+        answer(&mut wrong, given, number);
+        wrong.extend(library.differences(&self.lent));
+        let tell = |what| {
+            let (header, log) = (hex(&header), hex(&log));
+            let lengths = format!("area of {} bytes", self.lent.area.len());
+            let numbers = format!("standing {standing}, total {total}");
+            format!("{asked:02X?}: {what}: header {header}, {lengths}, log {log}, {numbers}")
+        };
+        outcome(wrong).map(|()| number).map_err(tell)
+    }
+
+    /// Makes a call whose number the group knows before.
+    pub fn expect(&mut self, group: &mut Group, asked: Call, number: u32) -> Outcome {
+        let answer = self.call(group, asked)?;
+        if answer == number {
+            return Ok(());
+        }
+        Err(format!("the reference answers {answer}, not {number}"))
+    }
+}

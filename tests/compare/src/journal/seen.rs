@@ -1,0 +1,85 @@
+//! How often each function gave each number, and what each one must have given.
+
+use compare::report::Outcome;
+use reference::journal::{Call, Correction};
+
+/// One more than the highest number.
+const NUMBERS: usize = 33;
+
+#[derive(Clone, Copy, PartialEq, Eq)]
+pub enum Function {
+    Start,
+    View,
+    Byte,
+    Pair,
+    Out,
+    Undo,
+    Redo,
+}
+
+impl Function {
+    pub fn of(call: Call) -> Function {
+        match call {
+            Call::Correct(Correction::Byte { .. }) => Function::Byte,
+            Call::Correct(Correction::Pair { .. }) => Function::Pair,
+            Call::Correct(Correction::Out { .. }) => Function::Out,
+            Call::Undo => Function::Undo,
+            Call::Redo => Function::Redo,
+        }
+    }
+}
+
+/// Every number of each function.
+const EXPECTED: [(Function, &str, &[usize]); 7] = [
+    (Function::Start, "start", &[0]),
+    (Function::View, "view", &[0, 20, 21, 30, 31]),
+    (Function::Byte, "byte", &[0, 20, 21, 23, 26, 29]),
+    (Function::Pair, "pair", &[0, 20, 21, 26, 29, 32]),
+    (Function::Out, "out", &[0, 20, 21, 24, 25, 26, 29]),
+    (Function::Undo, "undo", &[0, 20, 21, 27, 28, 29]),
+    (Function::Redo, "redo", &[0, 20, 21, 27, 28, 29]),
+];
+
+pub struct Seen {
+    counts: [[u64; NUMBERS]; 7],
+}
+
+impl Seen {
+    pub fn new() -> Seen {
+        Seen {
+            counts: [[0; NUMBERS]; 7],
+        }
+    }
+
+    /// Counts an answer of the library; one that is no number at all is told elsewhere.
+    pub fn add(&mut self, function: Function, number: u32) {
+        if let Some(count) = self.counts[function as usize].get_mut(number as usize) {
+            *count += 1;
+        }
+    }
+
+    pub fn calls(&self) -> u64 {
+        self.counts.iter().flatten().sum()
+    }
+
+    /// Prints the counts. Each function gave each of its numbers and no other, in enough calls.
+    pub fn all(&self, least: u64) -> Outcome {
+        let mut outcome = Ok(());
+        for (function, name, numbers) in EXPECTED {
+            let counts = &self.counts[function as usize];
+            let given = (0..NUMBERS).filter(|n| counts[*n] > 0);
+            let list: Vec<String> = given.map(|n| format!("{n}: {}", counts[n])).collect();
+            println!("    {name}  {}", list.join(", "));
+            for (number, count) in counts.iter().enumerate() {
+                let expected = numbers.contains(&number);
+                if expected != (*count > 0) {
+                    outcome = Err(format!("{name} answered {number} {count} times"));
+                }
+            }
+        }
+        if self.calls() < least {
+            outcome = Err(format!("only {} calls", self.calls()));
+        }
+        outcome
+    }
+}
