@@ -226,9 +226,9 @@ fn put_value(m: Machine, memory: &mut [u8], s: Step, v: u16) -> Machine
 {
     let tag = s.tag;
     if tag == 1 {
-        let at = (s.index as usize) * 16384 + (s.offset as usize);
-        if at < memory.len() {
-            memory[at] = (v % 256) as u8;
+        let spot = (s.index as usize) * 16384 + (s.offset as usize);
+        if spot < memory.len() {
+            memory[spot] = (v % 256) as u8;
         }
         return m;
     }

@@ -2,3 +2,4 @@ pub mod Turns
 pub mod Encode
 pub mod Order
 pub mod Refuted
+pub mod Opened

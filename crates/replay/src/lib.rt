@@ -8,9 +8,11 @@ ghost use Prim.Native.Nat.{ℕ, _+_, _*_, _≤_};
 ghost use mathlib.Core.Path.{_≡_};
 ghost use mathlib.Core.Bool.{true};
 ghost use lib.ListN.{length};
+ghost use Rattle.spectrum.specs.declared.Answer.the-variants.{Accepted};
 ghost use Rattle.spectrum.specs.Numbers.{numberOf};
 ghost use Rattle.spectrum.specs.Valid.{validOf};
 ghost use Rattle.journal.specs.Journal.{deskOn};
+ghost use Rattle.z80read.specs.Read.{readOf};
 ghost use Rattle.replay.specs.Replay.{callAt, callsFrom, Replayed, Ran};
 
 // A log is started and every call of a list made, each on what the last one left. From any valid machine with 131,072 bytes of memory and
@@ -27,6 +29,21 @@ pub fn replay(
     m.typed();
     let counts = journal::start(log);
     run(m, memory, log, counts, calls, numbers)
+}
+
+// An opened file is a start: where reading accepts it, all is the model's from the machine and memory that it gives.
+pub fn replay_file(
+    file: &[u8],
+    area: &mut [u8],
+    log: &mut [u8],
+    calls: &[u8],
+    numbers: &mut [u8],
+) -> Done
+    ensures { λ r. ⌜ (readOf (now (file .entry)) (length (now (area .entry))) .answer ≡ Accepted → length (now (calls .entry)) ≡ length (now (numbers .entry)) * 4 → Replayed (record { machine = readOf (now (file .entry)) (length (now (area .entry))) .machine; memory = readOf (now (file .entry)) (length (now (area .entry))) .memory }) (now (log .entry)) (callsFrom (now (calls .entry)) 0 (length (now (numbers .entry)))) r (now (area .exit)) (now (numbers .exit))) ⌝ }
+{
+    let opened = z80read::read(file, area);
+    let m = opened.machine;
+    replay(m, area, log, calls, numbers)
 }
 
 // The loop over the calls.

@@ -57,13 +57,13 @@ pub extern "C" fn snap_view(
     page: u8,
     in_rom: &mut u8,
     start: &mut u64,
-    size: &mut u64,
+    span: &mut u64,
 ) -> u32
-    ensures { λ r. ⌜ Shows (showOf (now (head .entry)) (length (now (rom .entry))) (length (now (area .entry))) page) r (now (in_rom .exit)) (now (start .exit)) (now (size .exit)) ⌝ }
+    ensures { λ r. ⌜ Shows (showOf (now (head .entry)) (length (now (rom .entry))) (length (now (area .entry))) page) r (now (in_rom .exit)) (now (start .exit)) (now (span .exit)) ⌝ }
 {
     *in_rom = 0;
     *start = 0;
-    *size = 0;
+    *span = 0;
     let taken = header::take_header(head);
     if taken.canonical {
         let m = taken.machine;
@@ -73,13 +73,13 @@ pub extern "C" fn snap_view(
             Part::Nowhere => return spectrum::number(answer),
             Part::InArea(from) => {
                 *start = from as u64;
-                *size = 16384;
+                *span = 16384;
                 return spectrum::number(answer);
             }
             Part::InRom(from) => {
                 *in_rom = 1;
                 *start = from as u64;
-                *size = 16384;
+                *span = 16384;
                 return spectrum::number(answer);
             }
         }

@@ -3,17 +3,17 @@ use borrow.Author.Needs.{needs}
 use Rattle.journal.proofs.put_value.Statement.{statement}
 use Rattle.journal.proofs.put_value.Tie as tie
 
-cast-at : tie.Need-cast-at
-cast-at c = search needs
+cast-spot : tie.Need-cast-spot
+cast-spot c = search needs
 
-mul-at : tie.Need-mul-at
-mul-at c = search needs
+mul-spot : tie.Need-mul-spot
+mul-spot c = search needs
 
-cast-at-2 : tie.Need-cast-at-2
-cast-at-2 c = search needs
+cast-spot-2 : tie.Need-cast-spot-2
+cast-spot-2 c = search needs
 
-add-at : tie.Need-add-at
-add-at c = search needs
+add-spot : tie.Need-add-spot
+add-spot c = search needs
 
 cast-memory : tie.Need-cast-memory
 cast-memory c = search needs
@@ -52,10 +52,10 @@ pub put-value-spec : {M : Type 1} → statement M
 put-value-spec =
     tie.close
     (tie.spec
-    cast-at
-    mul-at
-    cast-at-2
-    add-at
+    cast-spot
+    mul-spot
+    cast-spot-2
+    add-spot
     cast-memory
     slice-write-memory
     same-length
