@@ -19,7 +19,8 @@ pub fn unpack_into(src: &[u8], dst: &mut [u8]) -> Answer {
     answer
 }
 
-fn write_unpacked(mut src: &[u8], mut dst: &mut [u8]) -> Answer {
+/// Writes what the source stands for, from the front of `dst` on.
+pub fn write_unpacked(mut src: &[u8], mut dst: &mut [u8]) -> Answer {
     loop {
         let (plain, codes) = src.split_at(plain_length(src));
         let Some((to, room)) = dst.split_at_mut_checked(plain.len()) else {
@@ -41,7 +42,7 @@ fn write_unpacked(mut src: &[u8], mut dst: &mut [u8]) -> Answer {
 }
 
 /// The answer where the part is too short and `src` is still unread.
-fn without_room(mut src: &[u8]) -> Answer {
+pub fn without_room(mut src: &[u8]) -> Answer {
     loop {
         src = match &src[plain_length(src)..] {
             [] => return Answer::WrongLength,

@@ -2,6 +2,7 @@
 //! of one and two, words and wide compares, each found first or copied along.
 
 use super::words::{every, lowest, word, zero_bytes};
+use crate::packing::sliced::{without_room, write_unpacked as write_unpacked_plainly};
 use crate::packing::{Answer, ED};
 
 /// Source bytes copied and looked at in one step.
@@ -44,7 +45,7 @@ fn write_unpacked(mut src: &[u8], mut dst: &mut [u8]) -> Answer {
         }
         (src, dst) = (after, &mut room[count..]);
     }
-    write_end(src, dst)
+    write_unpacked_plainly(src, dst)
 }
 
 /// Where ED ED starts in the step, or STEP if it does not.
@@ -58,43 +59,4 @@ fn find_code(chunk: &[u8; STEP + 1]) -> usize {
         }
     }
     STEP
-}
-
-/// Unpacks where the source or the part is nearly at its end.
-fn write_end(mut src: &[u8], mut dst: &mut [u8]) -> Answer {
-    loop {
-        let (plain, codes) = src.split_at(plain_length(src));
-        let Some((to, room)) = dst.split_at_mut_checked(plain.len()) else {
-            return without_room(codes);
-        };
-        to.copy_from_slice(plain);
-        let (count, byte, after) = match codes {
-            [] if room.is_empty() => return Answer::Good,
-            [] => return Answer::WrongLength,
-            [_, _, count @ 1..=255, byte, after @ ..] => (usize::from(*count), *byte, after),
-            _ => return Answer::Malformed,
-        };
-        let Some((to, room)) = room.split_at_mut_checked(count) else {
-            return without_room(after);
-        };
-        to.fill(byte);
-        (src, dst) = (after, room);
-    }
-}
-
-/// The answer where the part is too short and `src` is still unread.
-fn without_room(mut src: &[u8]) -> Answer {
-    loop {
-        src = match &src[plain_length(src)..] {
-            [] => return Answer::WrongLength,
-            [_, _, 1..=255, _, after @ ..] => after,
-            _ => return Answer::Malformed,
-        };
-    }
-}
-
-/// The bytes before the first ED ED.
-fn plain_length(src: &[u8]) -> usize {
-    let code = src.windows(2).position(|pair| pair == [ED, ED]);
-    code.unwrap_or(src.len())
 }

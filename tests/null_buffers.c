@@ -1,0 +1,41 @@
+/* Buffers of length 0 with NULL for a pointer: nothing is read or written through it. Run under the sanitizers. */
+#include "snapshot.h"
+#include <stdio.h>
+#include <string.h>
+
+static int passed, failed;
+
+static void expect(const char *what, uint32_t got, uint32_t due)
+{
+    if (got == due) {
+        printf("ok  %s gives %u\n", what, due);
+        passed++;
+    } else {
+        printf("FAIL %s: %u, not %u\n", what, got, due);
+        failed++;
+    }
+}
+
+int main(void)
+{
+    static uint8_t area[SNAP_AREA_SIZE], header[SNAP_HEADER_SIZE], file[SNAP_FILE_MOST];
+    uint64_t length = 7, start = 7, standing = 7, total = 7;
+    uint8_t in_rom = 7;
+    expect("no file", snap_z80_read(NULL, 0, area, sizeof area, header, sizeof header), 2);
+    expect("no area", snap_z80_read(file, sizeof file, NULL, 0, header, sizeof header), 1);
+    expect("no header", snap_z80_read(file, sizeof file, area, sizeof area, NULL, 0), 20);
+    expect("a blank header", snap_z80_read(NULL, 0, NULL, 0, header, sizeof header), 1);
+    expect("write, no header", snap_z80_write(NULL, 0, area, sizeof area, file, sizeof file, &length), 20);
+    expect("write, no area", snap_z80_write(header, sizeof header, NULL, 0, file, sizeof file, &length), 21);
+    expect("write, no output", snap_z80_write(header, sizeof header, area, sizeof area, NULL, 0, &length), 22);
+    expect("view, no ROM", snap_view(header, sizeof header, NULL, 0, area, sizeof area, 5, &in_rom, &start, &length), 31);
+    expect("view, no area", snap_view(header, sizeof header, NULL, 0, NULL, 0, 5, &in_rom, &start, &length), 21);
+    expect("start, no log", snap_log_start(NULL, 0, &standing, &total), 0);
+    expect("byte, no log", snap_correct_byte(header, sizeof header, area, sizeof area, NULL, 0, &standing, &total, 0x4000, 1), 26);
+    expect("pair, no area", snap_correct_pair(header, sizeof header, NULL, 0, NULL, 0, &standing, &total, 0, 1), 21);
+    expect("out, no header", snap_correct_out(NULL, 0, NULL, 0, NULL, 0, &standing, &total, 1), 20);
+    expect("undo, no log", snap_undo(header, sizeof header, area, sizeof area, NULL, 0, &standing, &total), 27);
+    expect("redo, no log", snap_redo(header, sizeof header, area, sizeof area, NULL, 0, &standing, &total), 27);
+    printf("%d passed, %d failed\n", passed, failed);
+    return failed != 0;
+}
