@@ -3,3 +3,4 @@ pub mod Encode
 pub mod Order
 pub mod Refuted
 pub mod Opened
+pub mod Never
