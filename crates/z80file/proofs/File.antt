@@ -38,7 +38,7 @@ use Rattle.z80write.specs.Written as W
 use Rattle.z80write.proofs.Whole.{room}
 use Rattle.z80write.proofs.Longest.{never-short}
 use Rattle.z80file.specs.Clean.{Clean}
-use Rattle.z80file.specs.RoundTrip.{Asks, RoundTrip, Rewrites, Alike}
+use Rattle.z80file.specs.RoundTrip.{Asks, RoundTrip, Rewrites, Alike, WritesAndReads, ReadsAndWrites}
 use Rattle.z80file.proofs.Back.{blocks-back}
 use Rattle.z80file.proofs.Accepted.{Good, good-blocks, good-body}
 
@@ -55,17 +55,13 @@ file-back m area t h c =
     ∙ ap (λ (x : Reading). R.outcomeOf x (machineOf V3 (m .model) (m .attachment) (W.fileOf m area)) 131072) b
     ∙ ap (λ (x : Machine). record { answer = Accepted; machine = x; memory = area }) (machine-back m rest t v)
 
--- what an accepted write left begins with the file
-record Holds (file out : List ℕ) (size n : ℕ) : Type 0 where
-  inside : size ≤ n
-  file-is : take size out ≡ file
-
 not-accepted : (w : Refusal) → Refused w ≡ Accepted → ⊥
 not-accepted w p = let z : _≡_ {A = ℕ} 0 1 = cc in omega arith
 
-holds : (m : Machine) (area : List ℕ) (n : ℕ) → W.writtenOf m area n .answer ≡ Accepted → Holds (W.fileOf m area) (W.writtenOf m area n .out) (W.writtenOf m area n .size) n
+-- what an accepted write left begins with the file
+holds : (m : Machine) (area : List ℕ) (n : ℕ) → W.writtenOf m area n .answer ≡ Accepted → take (W.writtenOf m area n .size) (W.writtenOf m area n .out) ≡ W.fileOf m area
 unfolding W.writtenOf
-holds m area n = go (validOf m) (eqb (length area) 131072) (leb (length (W.fileOf m area)) n) refl
+holds m area n = go (validOf m) (eqb (length area) 131072) (leb (length (W.fileOf m area)) n)
   where
     f : List ℕ
     f = W.fileOf m area
@@ -73,11 +69,11 @@ holds m area n = go (validOf m) (eqb (length area) 131072) (leb (length (W.fileO
     o : Bool → Bool → Bool → W.Outcome
     o t u v = choose t (choose u (choose v (W.accepted f n) (W.refusal OutputShort n)) (W.refusal MemoryLength n)) (W.refusal InvalidMachine n)
 
-    go : (t u v : Bool) → leb (length f) n ≡ v → o t u v .answer ≡ Accepted → Holds f (o t u v .out) (o t u v .size) n
-    go true true true e h = record { inside = leb-true _ _ e; file-is = take-at f (replicate (n - length f) 0) (length f) refl }
-    go true true false e h = absurd (not-accepted OutputShort h)
-    go true false v e h = absurd (not-accepted MemoryLength h)
-    go false u v e h = absurd (not-accepted InvalidMachine h)
+    go : (t u v : Bool) → o t u v .answer ≡ Accepted → take (o t u v .size) (o t u v .out) ≡ f
+    go true true true h = take-at f (replicate (n - length f) 0) (length f) refl
+    go true true false h = absurd (not-accepted OutputShort h)
+    go true false v h = absurd (not-accepted MemoryLength h)
+    go false u v h = absurd (not-accepted InvalidMachine h)
 
 size-inside : (m : Machine) (area : List ℕ) (n : ℕ) → W.writtenOf m area n .size ≤ n
 unfolding W.writtenOf
@@ -93,13 +89,8 @@ size-inside m area n = go (validOf m) (eqb (length area) 131072) (leb (length (W
     go true false v e = omega arith
     go false u v e = omega arith
 
-module _ (m : Machine) (area : List ℕ) (n : ℕ) (w : Written) (d : List ℕ) (g : W.Writes (W.writtenOf m area n) w d) where
-  pub length-inside : w .length ≤ n
-  length-inside = subst (λ (k : ℕ). k ≤ n) (sym (g .size)) (size-inside m area n)
-
-  -- what an accepted write left is the file
-  pub written-is : w .answer ≡ Accepted → take (w .length) d ≡ W.fileOf m area
-  written-is a = (λ k. take (g .size k) (g .memory k)) ∙ holds m area n (sym (g .answer) ∙ a) .file-is
+pub length-inside : (m : Machine) (area : List ℕ) (n : ℕ) (w : Written) (d : List ℕ) → W.Writes (W.writtenOf m area n) w d → w .length ≤ n
+length-inside m area n w d g = subst (λ (k : ℕ). k ≤ n) (sym (g .size)) (size-inside m area n)
 
 -- what an accepted read tells of the machine and the memory: it is a start, and it can be written
 pub record Start (m : Machine) (area : List ℕ) (n : ℕ) : Type 0 where
@@ -151,13 +142,12 @@ alike s one other m n a b p q e =
       memory = p .leaves .memory ∙ ap (λ (o : R.Outcome). o .memory) same ∙ sym (q .leaves .memory);
     }
 
-pub round-trip : (m : Machine) (area d back : List ℕ) (n long : ℕ) (w : Written) (r : Opened) → Typed m → W.Writes (W.writtenOf m area n) w d
-    → R.Reads (R.readOf (take (w .length - 0) (drop 0 d)) long) r back → Asks m area n long → RoundTrip m area r back
-round-trip m area d back n long w r t g p q =
-    let z : w .length - 0 ≡ w .length = omega arith in
-    let acc : w .answer ≡ Accepted = g .answer ∙ ap (λ (o : W.Outcome). o .answer) (room m area n (q .valid) (q .clean .long) (q .room)) in
-    let file : take (w .length - 0) d ≡ W.fileOf m area = ap (λ (k : ℕ). take k d) z ∙ written-is m area n w d g acc in
-    let same : R.readOf (take (w .length - 0) d) long ≡ record { answer = Accepted; machine = m; memory = area } =
+round-trip : (m : Machine) (area d back : List ℕ) (n long : ℕ) (r : Opened) → Typed m → d ≡ W.writtenOf m area n .out
+    → R.Reads (R.readOf (take (W.writtenOf m area n .size) d) long) r back → Asks m area n long → RoundTrip m area r back
+round-trip m area d back n long r t e p q =
+    let acc : W.writtenOf m area n .answer ≡ Accepted = ap (λ (o : W.Outcome). o .answer) (room m area n (q .valid) (q .clean .long) (q .room)) in
+    let file : take (W.writtenOf m area n .size) d ≡ W.fileOf m area = ap (take (W.writtenOf m area n .size)) e ∙ holds m area n acc in
+    let same : R.readOf (take (W.writtenOf m area n .size) d) long ≡ record { answer = Accepted; machine = m; memory = area } =
     (λ k. R.readOf (file k) (q .whole k)) ∙ file-back m area t (q .valid) (q .clean) in
     record {
       answer = p .leaves .answer ∙ ap (λ (o : R.Outcome). o .answer) same;
@@ -165,17 +155,30 @@ round-trip m area d back n long w r t g p q =
       memory = p .leaves .memory ∙ ap (λ (o : R.Outcome). o .memory) same;
     }
 
-pub rewrites : (s area d : List ℕ) (k n : ℕ) (o : Opened) (m : Machine) (w : Written) → R.Reads (R.readOf s k) o area → m ≡ o .machine → Typed m
-    → W.Writes (W.writtenOf m area n) w d → o .answer ≡ Accepted → 131182 ≤ n → Rewrites (record { opened = o; written = w }) area d
-rewrites s area d k n o m w p e t g a h =
-    let b = read-start s k (sym (p .leaves .answer) ∙ a) in
-    let same : R.readOf s k .machine ≡ m = sym (p .leaves .machine) ∙ sym e in
-    let v : validOf m ≡ true = subst (λ (x : Machine). validOf x ≡ true) same (b .valid) in
-    let c : Clean (m .model) area = subst (λ (l : List ℕ). Clean (m .model) l) (sym (p .leaves .memory)) (subst (λ (x : Machine). Clean (x .model) (R.readOf s k .memory)) same (b .clean)) in
-    let acc : w .answer ≡ Accepted = g .answer ∙ never-short m area n t v (c .long) h in
+pub writes-and-reads : (m : Machine) (area d back : List ℕ) (n long : ℕ) (w : Written) (r : Opened) → Typed m → W.Writes (W.writtenOf m area n) w d
+    → R.Reads (R.readOf (take (w .length - 0) (drop 0 d)) long) r back → WritesAndReads m area n long r d back
+writes-and-reads m area d back n long w r t g p =
+    let z : w .length - 0 ≡ w .length = omega arith in
+    let q : R.Reads (R.readOf (take (W.writtenOf m area n .size) d) long) r back = subst (λ (k : ℕ). R.Reads (R.readOf (take k d) long) r back) (z ∙ g .size) p in
+    record { written = g .memory; read = q; round = round-trip m area d back n long r t (g .memory) q }
+
+rewrites : (s area d : List ℕ) (k n : ℕ) (o : Opened) (w : Written) → R.Leaves (R.readOf s k) o area → Typed (R.readOf s k .machine)
+    → W.Writes (W.writtenOf (R.readOf s k .machine) (R.readOf s k .memory) n) w d → R.readOf s k .answer ≡ Accepted → 131182 ≤ n
+    → Rewrites (record { opened = o; written = w }) area d
+rewrites s area d k n o w p t g a h =
+    let b = read-start s k a in
+    let acc = never-short _ _ n t (b .valid) (b .clean .long) h in
     record {
-      written = acc;
+      written = g .answer ∙ acc;
       again =
-          ap (λ (l : List ℕ). R.readOf l 131072) (written-is m area n w d g acc) ∙ file-back m area t v c
-          ∙ ap (λ (x : Machine). record { answer = Accepted; machine = x; memory = area }) e;
+          (λ i. R.readOf (take (g .size i) (g .memory i)) 131072) ∙ ap (λ (l : List ℕ). R.readOf l 131072) (holds _ _ n acc) ∙ file-back _ _ t (b .valid) (b .clean)
+          ∙ (λ i. record { answer = Accepted; machine = sym (p .machine) i; memory = sym (p .memory) i });
     }
+
+pub reads-and-writes : (s area d : List ℕ) (k n : ℕ) (o : Opened) (m : Machine) (w : Written) → R.Reads (R.readOf s k) o area → m ≡ o .machine → Typed m
+    → W.Writes (W.writtenOf m area n) w d → ReadsAndWrites (R.readOf s k) n (record { opened = o; written = w }) area d
+reads-and-writes s area d k n o m w p e t g =
+    let same : m ≡ R.readOf s k .machine = e ∙ p .leaves .machine in
+    let q : W.Writes (W.writtenOf (R.readOf s k .machine) (R.readOf s k .memory) n) w d =
+    subst (λ (x : W.Outcome). W.Writes x w d) (λ i. W.writtenOf (same i) (p .leaves .memory i) n) g in
+    record { read = p; written = q; rewrites = rewrites s area d k n o w (p .leaves) (subst Typed same t) q }

@@ -8,7 +8,9 @@ use Rattle.spectrum.specs.declared.Machine.{Machine}
 use Rattle.spectrum.specs.declared.Answer.the-variants.{Accepted}
 use Rattle.spectrum.specs.Valid.{validOf}
 use Rattle.z80read.specs.declared.Opened.{Opened}
-use Rattle.z80read.specs.Read.{readOf}
+use Rattle.z80read.specs.Read as R
+use Rattle.z80read.specs.Read.{readOf, Reads}
+use Rattle.z80write.specs.Written as W
 use Rattle.z80write.specs.Written.{fileOf}
 use Rattle.z80file.specs.declared.Pair.{Pair}
 use Rattle.z80file.specs.declared.Rewritten.{Rewritten}
@@ -38,3 +40,23 @@ pub record Alike (one other : List ℕ) (r : Pair) : Type 0 where
   pub answer : r .one .answer ≡ r .other .answer
   pub machine : r .one .machine ≡ r .other .machine
   pub memory : one ≡ other
+
+-- The promise of `read_twice`: each read is what reading comes to; into areas of one length both end alike.
+pub record ReadTwice (s : List ℕ) (m n : ℕ) (r : Pair) (one other : List ℕ) : Type 0 where
+  pub first : Reads (readOf s m) (r .one) one
+  pub second : Reads (readOf s n) (r .other) other
+  pub alike : m ≡ n → Alike one other r
+
+-- The promise of `write_and_read`, into an output of n bytes and a second area of long bytes: the output is what writing comes to, and
+-- what it wrote is what was read; where the round trip's terms are met, that gives machine and memory back.
+pub record WritesAndReads (m : Machine) (area : List ℕ) (n long : ℕ) (r : Opened) (out back : List ℕ) : Type 0 where
+  pub written : out ≡ W.writtenOf m area n .out
+  pub read : Reads (readOf (take (W.writtenOf m area n .size) out) long) r back
+  pub round : Asks m area n long → RoundTrip m area r back
+
+-- The promise of `read_and_write`: the read is what reading comes to, the write what writing that comes to; accepted, and with room for
+-- any file, it reads again as the same.
+pub record ReadsAndWrites (o : R.Outcome) (n : ℕ) (r : Rewritten) (area out : List ℕ) : Type 0 where
+  pub read : Reads o (r .opened) area
+  pub written : W.Writes (W.writtenOf (o .machine) (o .memory) n) (r .written) out
+  pub rewrites : o .answer ≡ Accepted → 131182 ≤ n → Rewrites r area out

@@ -1,4 +1,4 @@
-use Rattle.z80file.proofs.File.{rewrites}
+use Rattle.z80file.proofs.File.{reads-and-writes}
 use borrow.Author.Needs.{needs}
 use Rattle.z80file.proofs.read_and_write.Statement.{statement}
 use Rattle.z80file.proofs.read_and_write.Tie as tie
@@ -19,7 +19,7 @@ same-length-2 : tie.Need-same-length-2
 same-length-2 c = search needs
 
 returns : tie.Need-returns
-returns c = search rewrites
+returns c = search reads-and-writes
 
 pub read-and-write-spec : {M : Type 1} → statement M
 read-and-write-spec =

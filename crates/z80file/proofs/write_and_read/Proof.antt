@@ -1,4 +1,4 @@
-use Rattle.z80file.proofs.File.{round-trip, length-inside}
+use Rattle.z80file.proofs.File.{writes-and-reads, length-inside}
 use borrow.Author.Needs.{needs}
 use Rattle.z80file.proofs.write_and_read.Statement.{statement}
 use Rattle.z80file.proofs.write_and_read.Tie as tie
@@ -28,7 +28,7 @@ same-length-2 : tie.Need-same-length-2
 same-length-2 c = search needs
 
 returns : tie.Need-returns
-returns c = search round-trip
+returns c = search writes-and-reads
 
 pub write-and-read-spec : {M : Type 1} → statement M
 write-and-read-spec =
