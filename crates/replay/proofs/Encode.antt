@@ -1,12 +1,12 @@
--- Every list of calls is what some bytes say, so a replay's contract speaks of every list.
-use Prim.Native.Nat.{ℕ, zero, suc, _+_, _*_, _/_, _%_}
+-- Every list of calls is what some bytes say, four to a call, so a replay's contract speaks of every list.
+use Prim.Native.Nat.{ℕ, zero, suc, _+_, _*_, _/_, _%_, _<_}
 use mathlib.Core.Path.{_≡_, refl, ap, _∙_}
 use mathlib.Core.List.{List, [], _∷_}
 use native.Mathlib.Omega.{arith}
 use lib.ListN.{length, getD}
 use Rattle.journal.specs.declared.Call.{Call}
 use Rattle.journal.specs.declared.Call.the-variants.{Byte, Pair, Out, Undo, Redo}
-use Rattle.replay.specs.Replay.{callAt, callsFrom}
+use Rattle.replay.specs.Replay.{callAt, callsFrom, callCount, callsIn}
 
 abbrev pub encode : List Call → List ℕ
 encode [] = []
@@ -44,3 +44,40 @@ every-list (Pair i v ∷ cs) = simp two-bytes (ap (λ (l : List Call). Pair i v 
 every-list (Out v ∷ cs) = ap (λ (l : List Call). Out v ∷ l) (calls-next _ _ _ _ (encode cs) 0 (length cs) ∙ every-list cs)
 every-list (Undo ∷ cs) = ap (λ (l : List Call). Undo ∷ l) (calls-next _ _ _ _ (encode cs) 0 (length cs) ∙ every-list cs)
 every-list (Redo ∷ cs) = ap (λ (l : List Call). Redo ∷ l) (calls-next _ _ _ _ (encode cs) 0 (length cs) ∙ every-list cs)
+
+pub encode-length : (cs : List Call) → length (encode cs) ≡ length cs * 4
+encode-length [] = refl
+encode-length (Byte a v ∷ cs) = omega (arith, encode-length cs)
+encode-length (Pair i v ∷ cs) = omega (arith, encode-length cs)
+encode-length (Out v ∷ cs) = omega (arith, encode-length cs)
+encode-length (Undo ∷ cs) = omega (arith, encode-length cs)
+encode-length (Redo ∷ cs) = omega (arith, encode-length cs)
+
+pub every-list-in : (cs : List Call) → callsIn (encode cs) (length cs) ≡ cs
+every-list-in cs =
+    let e : callCount (encode cs) (length cs) ≡ length cs = omega (arith, encode-length cs) in
+    rw e (every-list cs)
+
+-- calls as the code's types have them
+abbrev pub TypedCalls : List Call → Type 0
+TypedCalls [] = Unit {0}
+TypedCalls (Byte a v ∷ cs) = (a < 65536) × (v < 256) × TypedCalls cs
+TypedCalls (Pair i v ∷ cs) = (i < 256) × (v < 65536) × TypedCalls cs
+TypedCalls (Out v ∷ cs) = (v < 256) × TypedCalls cs
+TypedCalls (Undo ∷ cs) = TypedCalls cs
+TypedCalls (Redo ∷ cs) = TypedCalls cs
+
+four-bytes : (w x y z : ℕ) (b : List ℕ) → w < 256 → x < 256 → y < 256 → z < 256 → ((i : ℕ) → getD b i 0 < 256) → (i : ℕ) → getD (w ∷ x ∷ y ∷ z ∷ b) i 0 < 256
+four-bytes w x y z b hw hx hy hz h zero = hw
+four-bytes w x y z b hw hx hy hz h (suc zero) = hx
+four-bytes w x y z b hw hx hy hz h (suc (suc zero)) = hy
+four-bytes w x y z b hw hx hy hz h (suc (suc (suc zero))) = hz
+four-bytes w x y z b hw hx hy hz h (suc (suc (suc (suc i)))) = h i
+
+pub encode-bytes : (cs : List Call) → TypedCalls cs → (i : ℕ) → getD (encode cs) i 0 < 256
+encode-bytes [] t = λ i. omega arith
+encode-bytes (Byte a v ∷ cs) t = four-bytes _ _ _ _ (encode cs) (omega arith) (omega arith) (omega arith) (omega arith) (encode-bytes cs (t .2))
+encode-bytes (Pair k v ∷ cs) t = four-bytes _ _ _ _ (encode cs) (omega arith) (omega arith) (omega arith) (omega arith) (encode-bytes cs (t .2))
+encode-bytes (Out v ∷ cs) t = four-bytes _ _ _ _ (encode cs) (omega arith) (omega arith) (omega arith) (omega arith) (encode-bytes cs (t .1))
+encode-bytes (Undo ∷ cs) t = four-bytes _ _ _ _ (encode cs) (omega arith) (omega arith) (omega arith) (omega arith) (encode-bytes cs t)
+encode-bytes (Redo ∷ cs) t = four-bytes _ _ _ _ (encode cs) (omega arith) (omega arith) (omega arith) (omega arith) (encode-bytes cs t)

@@ -7,7 +7,7 @@ use native.Mathlib.Omega.{arith}
 use native.Mathlib.Numerals.{add-one}
 use lib.Dec.{eqb}
 use lib.ListN.{length, getD, set, take, replicate, length-set, length-replicate}
-use lib.Seq.{take-suc-set, append-snoc, take-all}
+use lib.Seq.{take-suc-set, append-snoc}
 use borrow.Author.Tests.{eq-eqb, ne-eqb}
 use Rattle.slices.specs.Choose.{choose}
 use Rattle.spectrum.specs.declared.Machine.{Machine}
@@ -16,6 +16,7 @@ use Rattle.spectrum.specs.declared.Refusal.the-variants.{AreaLength, FileShort,
 use Rattle.spectrum.specs.declared.Answer.{Answer}
 use Rattle.spectrum.specs.declared.Answer.the-variants.{Accepted, Refused}
 use Rattle.spectrum.specs.Numbers.{numberOf, refusalNumber}
+use Rattle.spectrum.specs.Valid.{validOf}
 use Rattle.journal.specs.declared.Done.{Done}
 use Rattle.journal.specs.declared.Counts.{Counts}
 use Rattle.journal.specs.declared.Call.{Call}
@@ -25,56 +26,67 @@ use Rattle.journal.specs.Steps.{capacity}
 use Rattle.journal.specs.Journal.{Desk, Did, didOf, deskOn, journalCall, startCounts}
 use Rattle.journal.specs.Claim.{Fit, WideCall, WideCalls, started, runAfter, runAnswers}
 use Rattle.journal.proofs.Claim.{claim}
-use Rattle.replay.specs.Replay.{callAt, callsFrom, Leaves, Replayed, Ran}
+use Rattle.replay.specs.Replay.{callAt, callsFrom, callCount, callsIn, numbersIn, lastOf, Ran, Leaves, Replays}
 
 abbrev pub deskIn : Done → List ℕ → List ℕ → Desk
 deskIn r memory log = deskOn (r .machine) memory log (r .counts)
 
-pub record Going (calls : List ℕ) (d₀ d : Desk) (numbers₀ numbers : List ℕ) (i : ℕ) : Type 0 where
-  pub reach : i ≤ length numbers
+pub record Going (calls : List ℕ) (n : ℕ) (d₀ d : Desk) (a : Answer) (numbers₀ numbers : List ℕ) (i : ℕ) : Type 0 where
+  pub reach : i ≤ n
+  pub fits : n ≤ length numbers₀
   pub long : length numbers ≡ length numbers₀
-  pub rest : runAfter journalCall d (callsFrom calls i (length numbers₀ - i)) ≡ runAfter journalCall d₀ (callsFrom calls 0 (length numbers₀))
-  pub said : take i numbers ++ map numberOf (runAnswers journalCall d (callsFrom calls i (length numbers₀ - i))) ≡ map numberOf (runAnswers journalCall d₀ (callsFrom calls 0 (length numbers₀)))
+  pub rest : runAfter journalCall d (callsFrom calls i (n - i)) ≡ runAfter journalCall d₀ (callsFrom calls 0 n)
+  pub said : take i numbers ++ map numberOf (runAnswers journalCall d (callsFrom calls i (n - i))) ≡ map numberOf (runAnswers journalCall d₀ (callsFrom calls 0 n))
+  pub last : lastOf a (runAnswers journalCall d (callsFrom calls i (n - i))) ≡ lastOf Accepted (runAnswers journalCall d₀ (callsFrom calls 0 n))
 
 calls-more : (b : List ℕ) (i n : ℕ) → i < n → callsFrom b i (n - i) ≡ callAt b i ∷ callsFrom b (i + 1) (n - (i + 1))
 calls-more b i n h =
     let q : n - i ≡ suc (n - (i + 1)) = omega arith in
     ap (callsFrom b i) q ∙ ap (λ (k : ℕ). callAt b i ∷ callsFrom b k (n - (i + 1))) (sym (add-one i))
 
-pub going-none : (calls : List ℕ) (d : Desk) (numbers : List ℕ) → Going calls d d numbers numbers 0
-going-none calls d numbers =
-    let q : length numbers - 0 ≡ length numbers = omega arith in
-    record { reach = omega arith; long = refl; rest = rw q; said = rw q }
+pub going-none : (calls : List ℕ) (n : ℕ) (d : Desk) (numbers : List ℕ) → n ≤ length numbers → Going calls n d d Accepted numbers numbers 0
+going-none calls n d numbers h =
+    let q : n - 0 ≡ n = omega arith in
+    record { reach = omega arith; fits = h; long = refl; rest = rw q; said = rw q; last = rw q }
 
-pub going-more : (calls : List ℕ) (d₀ d : Desk) (numbers₀ numbers : List ℕ) (i : ℕ) (call : Call) (r : Done) (memory log : List ℕ) (v : ℕ)
-    → Going calls d₀ d numbers₀ numbers i → i < length numbers → call ≡ callAt calls i → didOf r memory log ≡ journalCall call d → v ≡ numberOf (r .answer)
-    → Going calls d₀ (deskIn r memory log) numbers₀ (set numbers i v) (i + 1)
-going-more calls d₀ d numbers₀ numbers i call r memory log v g h ec e ev =
-    let n = length numbers₀ in
-    let h2 : i < n = omega (arith, g .long) in
+pub going-more : (calls : List ℕ) (n : ℕ) (d₀ d : Desk) (a : Answer) (numbers₀ numbers : List ℕ) (i : ℕ) (call : Call) (r : Done) (memory log : List ℕ) (v : ℕ)
+    → Going calls n d₀ d a numbers₀ numbers i → i < n → call ≡ callAt calls i → didOf r memory log ≡ journalCall call d → v ≡ numberOf (r .answer)
+    → Going calls n d₀ (deskIn r memory log) (r .answer) numbers₀ (set numbers i v) (i + 1)
+going-more calls n d₀ d a numbers₀ numbers i call r memory log v g h ec e ev =
     let left = callsFrom calls (i + 1) (n - (i + 1)) in
     let e2 : didOf r memory log ≡ journalCall (callAt calls i) d = e ∙ ap (λ (x : Call). journalCall x d) ec in
     let more = map numberOf (runAnswers journalCall (deskIn r memory log) left) in
     record {
-      reach = simp length-set (omega arith);
+      reach = omega arith;
+      fits = g .fits;
       long = length-set numbers i v ∙ g .long;
-      rest = ap (λ (x : Did). runAfter journalCall (x .desk) left) e2 ∙ sym (ap (runAfter journalCall d) (calls-more calls i n h2)) ∙ g .rest;
+      rest = ap (λ (x : Did). runAfter journalCall (x .desk) left) e2 ∙ sym (ap (runAfter journalCall d) (calls-more calls i n h)) ∙ g .rest;
       said =
           ap (λ (k : ℕ). take k (set numbers i v) ++ more) (add-one i)
-          ∙ ap (λ (l : List ℕ). l ++ more) (take-suc-set numbers i v h)
+          ∙ ap (λ (l : List ℕ). l ++ more) (take-suc-set numbers i v (omega arith))
           ∙ append-snoc (take i numbers) v more
           ∙ ap (λ (x : ℕ). take i numbers ++ (x ∷ more)) ev
           ∙ ap (λ (x : Did). take i numbers ++ (numberOf (x .answer) ∷ map numberOf (runAnswers journalCall (x .desk) left))) e2
-          ∙ sym (ap (λ (l : List Call). take i numbers ++ map numberOf (runAnswers journalCall d l)) (calls-more calls i n h2))
+          ∙ sym (ap (λ (l : List Call). take i numbers ++ map numberOf (runAnswers journalCall d l)) (calls-more calls i n h))
           ∙ g .said;
+      last =
+          ap (λ (x : Did). lastOf (x .answer) (runAnswers journalCall (x .desk) left)) e2
+          ∙ sym (ap (λ (l : List Call). lastOf a (runAnswers journalCall d l)) (calls-more calls i n h))
+          ∙ g .last;
     }
 
-pub going-done : (calls : List ℕ) (d₀ : Desk) (r : Done) (memory log numbers₀ numbers : List ℕ) (i : ℕ)
-    → Going calls d₀ (deskIn r memory log) numbers₀ numbers i → length numbers ≤ i → Ran calls (length numbers₀) d₀ r memory log numbers
-going-done calls d₀ r memory log numbers₀ numbers i g h =
-    let z : length numbers₀ - i ≡ 0 = omega (arith, g .long) in
-    let a : take i numbers ++ [] ≡ map numberOf (runAnswers journalCall d₀ (callsFrom calls 0 (length numbers₀))) = rw z at (g .said) in
-    record { desk = rw z at (g .rest); said = sym (take-all i numbers h) ∙ sym (append-nil (take i numbers)) ∙ a }
+pub going-done : (calls : List ℕ) (n : ℕ) (d₀ : Desk) (r : Done) (memory log numbers₀ numbers numbers′ : List ℕ) (i : ℕ)
+    → Going calls n d₀ (deskIn r memory log) (r .answer) numbers₀ numbers i → n ≤ i → n ≡ callCount calls (length numbers₀)
+    → numbers′ ≡ take n numbers ++ replicate (length numbers - n) 0 → Ran calls (length numbers₀) d₀ r memory log numbers′
+going-done calls n d₀ r memory log numbers₀ numbers numbers′ i g h en e =
+    let z : n - i ≡ 0 = omega arith in
+    let q : i ≡ n = omega arith in
+    let a : take n numbers ++ [] ≡ map numberOf (runAnswers journalCall d₀ (callsFrom calls 0 n)) = rw (z, q) at (g .said) in
+    record {
+      desk = rw (← en) (rw z at (g .rest));
+      said = rw (← en) (e ∙ rw (g .long, ← a, append-nil));
+      answer = rw (← en) (rw z at (g .last));
+    }
 
 two-wide : (a b : ℕ) → a < 256 → b < 256 → a + 256 * b < 65536
 two-wide a b h g = omega arith
@@ -105,24 +117,31 @@ capacity-zeros : (log : List ℕ) → capacity (replicate (length log) 0) ≡ ca
 unfolding capacity
 capacity-zeros log = rw (length-replicate {A = ℕ} (length log) 0)
 
--- the claim of the code's own run
-pub replayed : (m : Machine) (memory log zeros calls : List ℕ) (n : ℕ) (counts : Counts) (r : Done) (memory′ log′ numbers : List ℕ) → Fit (record { machine = m; memory = memory })
-    → ((j : ℕ) → getD calls j 0 < 256) → counts ≡ startCounts → zeros ≡ replicate (length log) 0 → Ran calls n (deskOn m memory zeros counts) r memory′ log′ numbers
-    → Replayed (record { machine = m; memory = memory }) log (callsFrom calls 0 n) r memory′ numbers
-replayed m memory log zeros calls n counts r memory′ log′ numbers ok bytes ec ez g =
+-- the promise of `replay`, from what its run leaves
+pub replays : (m : Machine) (memory log zeros calls : List ℕ) (room : ℕ) (counts : Counts) (r : Done) (memory′ log′ numbers : List ℕ)
+    → (validOf m ≡ true → length memory ≡ 131072 → Fit (record { machine = m; memory = memory }))
+    → ((j : ℕ) → getD calls j 0 < 256) → counts ≡ startCounts → zeros ≡ replicate (length log) 0 → Ran calls room (deskOn m memory zeros counts) r memory′ log′ numbers
+    → Replays (record { machine = m; memory = memory }) log calls room r memory′ log′ numbers
+replays m memory log zeros calls room counts r memory′ log′ numbers fit bytes ec ez g₀ =
     let start : World = record { machine = m; memory = memory } in
-    let q = claim start zeros ok (callsFrom calls 0 n) (wide-all calls bytes 0 n) in
-    let c : capacity zeros ≡ capacity log = ap capacity ez ∙ capacity-zeros log in
-    let d : deskOn m memory zeros counts ≡ started start zeros = ap (deskOn m memory zeros) ec in
-    let e : deskIn r memory′ log′ ≡ runAfter journalCall (started start zeros) (callsFrom calls 0 n) = g .desk ∙ ap (λ (x : Desk). runAfter journalCall x (callsFrom calls 0 n)) d in
-    subst (λ (k : ℕ). Leaves start k (callsFrom calls 0 n) (modelAfter start k emptyBench (callsFrom calls 0 n)) r memory′ numbers) c
-    (record {
-      machine = ap (λ (x : Desk). x .world .machine) e ∙ ap (λ (w : World). w .machine) (q .world);
-      memory-is = ap (λ (x : Desk). x .world .memory) e ∙ ap (λ (w : World). w .memory) (q .world);
-      standing = ap (λ (x : Desk). x .standing) e ∙ q .standing;
-      total = ap (λ (x : Desk). x .total) e ∙ q .total;
-      answered = g .said ∙ ap (λ (x : Desk). map numberOf (runAnswers journalCall x (callsFrom calls 0 n))) d ∙ ap (map numberOf) (q .answers);
-    })
+    let fresh : List ℕ = replicate (length log) 0 in
+    let cs = callsIn calls room in
+    let left = room - callCount calls room in
+    let d : deskOn m memory zeros counts ≡ started start fresh = λ k. deskOn m memory (ez k) (ec k) in
+    let g : Ran calls room (started start fresh) r memory′ log′ numbers = subst (λ (x : Desk). Ran calls room x r memory′ log′ numbers) d g₀ in
+    record {
+      ran = g;
+      claim = λ v a.
+          let q = claim start fresh (fit v a) cs (wide-all calls bytes 0 (callCount calls room)) in
+          subst (λ (k : ℕ). Leaves start k cs left (modelAfter start k emptyBench cs) r memory′ numbers) (capacity-zeros log)
+          (record {
+            machine = ap (λ (x : Desk). x .world .machine) (g .desk) ∙ ap (λ (w : World). w .machine) (q .world);
+            memory-is = ap (λ (x : Desk). x .world .memory) (g .desk) ∙ ap (λ (w : World). w .memory) (q .world);
+            standing = ap (λ (x : Desk). x .standing) (g .desk) ∙ q .standing;
+            total = ap (λ (x : Desk). x .total) (g .desk) ∙ q .total;
+            answered = g .said ∙ ap (λ (l : List Answer). numbersIn l left) (q .answers);
+          });
+    }
 
 -- a call from its bytes
 module _ (b : List ℕ) (i w : ℕ) (ew : w ≡ getD b (i * 4 + 1) 0 + 256 * getD b (i * 4 + 2) 0) where

@@ -6,14 +6,11 @@ use spectrum::Answer;
 use spectrum::Machine;
 ghost use Prim.Native.Nat.{ℕ, _+_, _*_, _≤_};
 ghost use mathlib.Core.Path.{_≡_};
-ghost use mathlib.Core.Bool.{true};
 ghost use lib.ListN.{length};
-ghost use Rattle.spectrum.specs.declared.Answer.the-variants.{Accepted};
 ghost use Rattle.spectrum.specs.Numbers.{numberOf};
-ghost use Rattle.spectrum.specs.Valid.{validOf};
 ghost use Rattle.journal.specs.Journal.{deskOn};
 ghost use Rattle.z80read.specs.Read.{readOf};
-ghost use Rattle.replay.specs.Replay.{callAt, callsFrom, Replayed, Ran};
+ghost use Rattle.replay.specs.Replay.{callAt, callCount, Ran, Replays, ReplaysFile};
 
 // A log is started and every call of a list made, each on what the last one left. From any valid machine with 131,072 bytes of memory and
 // a log of any length, all is the model's: this contract is the claim.
@@ -24,7 +21,7 @@ pub fn replay(
     calls: &[u8],
     numbers: &mut [u8],
 ) -> Done
-    ensures { λ r. ⌜ (validOf m ≡ true → length (now (memory .entry)) ≡ 131072 → length (now (calls .entry)) ≡ length (now (numbers .entry)) * 4 → Replayed (record { machine = m; memory = now (memory .entry) }) (now (log .entry)) (callsFrom (now (calls .entry)) 0 (length (now (numbers .entry)))) r (now (memory .exit)) (now (numbers .exit))) ⌝ }
+    ensures { λ r. ⌜ Replays (record { machine = m; memory = now (memory .entry) }) (now (log .entry)) (now (calls .entry)) (length (now (numbers .entry))) r (now (memory .exit)) (now (log .exit)) (now (numbers .exit)) ⌝ }
 {
     m.typed();
     let counts = journal::start(log);
@@ -39,7 +36,7 @@ pub fn replay_file(
     calls: &[u8],
     numbers: &mut [u8],
 ) -> Done
-    ensures { λ r. ⌜ (readOf (now (file .entry)) (length (now (area .entry))) .answer ≡ Accepted → length (now (calls .entry)) ≡ length (now (numbers .entry)) * 4 → Replayed (record { machine = readOf (now (file .entry)) (length (now (area .entry))) .machine; memory = readOf (now (file .entry)) (length (now (area .entry))) .memory }) (now (log .entry)) (callsFrom (now (calls .entry)) 0 (length (now (numbers .entry)))) r (now (area .exit)) (now (numbers .exit))) ⌝ }
+    ensures { λ r. ⌜ ReplaysFile (readOf (now (file .entry)) (length (now (area .entry)))) (now (log .entry)) (now (calls .entry)) (length (now (numbers .entry))) r (now (area .exit)) (now (log .exit)) (now (numbers .exit)) ⌝ }
 {
     let opened = z80read::read(file, area);
     let m = opened.machine;
@@ -55,27 +52,34 @@ fn run(
     calls: &[u8],
     numbers: &mut [u8],
 ) -> Done
-    ensures { λ r. ⌜ (length (now (calls .entry)) ≡ length (now (numbers .entry)) * 4 → Ran (now (calls .entry)) (length (now (numbers .entry))) (deskOn m (now (memory .entry)) (now (log .entry)) counts) r (now (memory .exit)) (now (log .exit)) (now (numbers .exit))) ⌝ }
+    ensures { λ r. ⌜ Ran (now (calls .entry)) (length (now (numbers .entry))) (deskOn m (now (memory .entry)) (now (log .entry)) counts) r (now (memory .exit)) (now (log .exit)) (now (numbers .exit)) ⌝ }
 {
+    let n = call_count(calls, numbers.len());
     let mut state = Done {
         answer: Answer::Accepted,
         machine: m,
         counts: counts,
     };
     let mut i = 0;
-    while i < numbers.len() {
-        if calls.len() / 4 <= i {
-            return state;
-        }
+    while i < n {
         let call = call_at(calls, i);
         let machine = state.machine;
-        let n = state.counts;
-        state = journal::call_on(machine, memory, log, n, call);
+        let so_far = state.counts;
+        state = journal::call_on(machine, memory, log, so_far, call);
         let answer = state.answer;
         numbers[i] = number_of(answer);
         i += 1;
     }
+    slices::clear_from(numbers, n);
     state
+}
+
+// How many calls are made.
+fn call_count(calls: &[u8], room: usize) -> usize
+    ensures { λ r. ⌜ r ≡ callCount (now (calls .entry)) room ⌝ }
+{
+    let n = calls.len() / 4;
+    if n < room { n } else { room }
 }
 
 fn two(low: u8, high: u8) -> u16

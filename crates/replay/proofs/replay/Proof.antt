@@ -1,5 +1,5 @@
 use native.Mathlib.Omega.{arith}
-use Rattle.replay.proofs.Turns.{replayed}
+use Rattle.replay.proofs.Turns.{replays}
 use borrow.Author.Needs.{needs}
 use Rattle.replay.proofs.replay.Statement.{statement}
 use Rattle.replay.proofs.replay.Tie as tie
@@ -23,16 +23,18 @@ same-length-3 : tie.Need-same-length-3
 same-length-3 c = search needs
 
 returns : tie.Need-returns
-returns c = λ v a l.
+returns c =
     let s = c .before .before .before .before .before .before .before .before .before .before .before .before .before .before .before .before .before .before .before in
     let memory = c .before .before .before .before .before .before .before .before .before .before .before .before .before .before .before .before .before .before .slice-known .given in
     let calls = c .before .before .before .before .before .before .before .before .before .before .before .before .before .before .before .before .shared-slice-known .given in
-    replayed _ _ _ _ _ _ _ _ _ _ _
-    (record { valid = v; area = a; bytes = λ i. omega (arith, memory i); out = omega (arith, s); count = c .before .before .before .before .before .before .before .before .before .before .before .before .before .before .typed .ensures .count })
+    let count = c .before .before .before .before .before .before .before .before .before .before .before .before .before .before .typed .ensures .count in
+    let start = c .before .before .before .before .before .before .before .before .before .before .before .before .start .ensures in
+    replays _ _ _ _ _ _ _ _ _ _ _
+    (λ v a. record { valid = v; area = a; bytes = λ i. omega (arith, memory i); out = omega (arith, s); count = count })
     (λ j. omega (arith, calls j))
-    (c .before .before .before .before .before .before .before .before .before .before .before .before .start .ensures .0)
-    (c .before .before .before .before .before .before .before .before .before .before .before .before .start .ensures .1)
-    (c .before .before .before .before .before .before .run .ensures l)
+    (start .0)
+    (start .1)
+    (c .before .before .before .before .before .before .run .ensures)
 
 pub replay-spec : {M : Type 1} → statement M
 replay-spec =
