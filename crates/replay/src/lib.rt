@@ -4,7 +4,7 @@ use journal::Counts;
 use journal::Done;
 use spectrum::Answer;
 use spectrum::Machine;
-ghost use Prim.Native.Nat.{ℕ, _+_, _*_, _≤_};
+ghost use Prim.Native.Nat.{_+_, _*_, _≤_};
 ghost use mathlib.Core.Path.{_≡_};
 ghost use lib.ListN.{length};
 ghost use Rattle.spectrum.specs.Numbers.{numberOf};

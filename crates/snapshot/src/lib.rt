@@ -92,9 +92,9 @@ pub extern "C" fn snap_view(
 pub extern "C" fn snap_log_start(log: &mut [u8], standing: &mut u64, total: &mut u64) -> u32
     ensures { λ r. ⌜ (r ≡ 0) × ((now (log .exit) ≡ replicate (length (now (log .entry))) 0) × ((now (standing .exit) ≡ 0) × (now (total .exit) ≡ 0))) ⌝ }
 {
-    let n = journal::start(log);
-    *standing = n.standing as u64;
-    *total = n.total as u64;
+    let counts = journal::start(log);
+    *standing = counts.standing as u64;
+    *total = counts.total as u64;
     spectrum::number(Answer::Accepted)
 }
 
