@@ -1,0 +1,70 @@
+/* pixels.c: a PNG held to the screen that a file saves: pixels PNG FILE. It goes through the bytes of screen memory and says
+ * where each must be seen. */
+#include <png.h>
+#include <stdio.h>
+#include <string.h>
+
+#include "snapshot.h"
+
+static uint8_t file[SNAP_READ_MOST], area[SNAP_AREA_SIZE], header[SNAP_HEADER_SIZE], seen[240][320][3];
+
+static int wrong(const char *what, unsigned x, unsigned y)
+{
+    printf("%s at %u, %u\n", what, x, y);
+    return 1;
+}
+
+/* Green, red and blue are bits 2, 1 and 0 of a colour. */
+static int is_colour(const uint8_t rgb[3], unsigned colour, unsigned bright)
+{
+    const uint8_t level = bright ? 255 : 215;
+    return rgb[0] == (colour >> 1 & 1) * level && rgb[1] == (colour >> 2) * level && rgb[2] == (colour & 1) * level;
+}
+
+static int screen_differs(const uint8_t *screen)
+{
+    for (unsigned offset = 0; offset < 6144; offset++) {
+        /* offset bits: two of the third, three of the line, three of the row, five of the column */
+        unsigned row = (offset >> 11) * 8 + (offset >> 5 & 7), y = row * 8 + (offset >> 8 & 7), column = offset & 31;
+        unsigned attribute = screen[6144 + row * 32 + column];
+        for (unsigned bit = 0; bit < 8; bit++) {
+            unsigned x = column * 8 + 7 - bit;
+            unsigned colour = screen[offset] >> bit & 1 ? attribute & 7 : attribute >> 3 & 7;
+            if (!is_colour(seen[24 + y][32 + x], colour, attribute & 64))
+                return wrong("pixel", x, y);
+        }
+    }
+    return 0;
+}
+
+static int border_differs(unsigned colour)
+{
+    for (unsigned y = 0; y < 240; y++)
+        for (unsigned x = 0; x < 320; x++) {
+            int inside = y >= 24 && y < 216 && x >= 32 && x < 288;
+            if (!inside && !is_colour(seen[y][x], colour, 0))
+                return wrong("border", x, y);
+        }
+    return 0;
+}
+
+int main(int argc, char **argv)
+{
+    png_image image = {.version = PNG_IMAGE_VERSION};
+    if (argc != 3 || !png_image_begin_read_from_file(&image, argv[1]))
+        return wrong("no PNG", 0, 0);
+    if (image.width != 320 || image.height != 240)
+        return wrong("another size", image.width, image.height);
+    image.format = PNG_FORMAT_RGB;
+    if (!png_image_finish_read(&image, NULL, seen, 0, NULL))
+        return wrong("a damaged PNG", 0, 0);
+    FILE *from = fopen(argv[2], "rb");
+    if (from == NULL)
+        return wrong("no file", 0, 0);
+    size_t length = fread(file, 1, sizeof file, from);
+    fclose(from);
+    if (snap_z80_read(file, length, area, sizeof area, header, sizeof header) != SNAP_ACCEPTED)
+        return wrong("a refused file", 0, 0);
+    unsigned page = header[34] >= 4 && (header[35] & 8) ? 7 : 5;
+    return screen_differs(area + page * SNAP_PAGE_SIZE) || border_differs(header[12] >> 1 & 7);
+}

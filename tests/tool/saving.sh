@@ -1,0 +1,88 @@
+# Saving: a full disk or a kill, at every call that saves, leaves the old file whole.
+
+gcc -std=c99 -Wall -Wextra -Werror -g -shared -fPIC tests/tool/failing_disk.c -ldl -o "$work/failing_disk.so" || exit 1
+make target/snapshot >"$work/log" 2>&1 || { tail "$work/log"; exit 1; }
+
+# with_fault KIND N WORDS..: the tool with that fault at the Nth call; prints its exit status.
+with_fault() {
+    local kind=$1 at=$2 status=0
+    shift 2
+    FAULT=$kind FAULT_AT=$at LD_PRELOAD=$work/failing_disk.so target/snapshot "$@" >"$work/out" 2>"$work/err" </dev/null || status=$?
+    echo "$status"
+}
+
+# 60 is more calls than saving takes; what stands at the place is the old file, or the new one and then only whole
+every_fault() {
+    local kind=$1 expected=$2 at status faults=0 folder
+    folder=$work/disk
+    for at in $(seq 1 60); do
+        rm -rf "$folder"
+        mkdir "$folder"
+        cp samples/museum-128k.z80 "$folder/out.z80"
+        status=$(with_fault "$kind" "$at" write tests/files/48k-text.z80 -o "$folder/out.z80" 2>/dev/null)
+        if [ "$status" -eq 0 ]; then
+            cmp "$folder/out.z80" "$work/whole.z80"
+            continue
+        fi
+        faults=$((faults + 1))
+        [ "$status" -eq "$expected" ]
+        cmp "$folder/out.z80" samples/museum-128k.z80 || cmp "$folder/out.z80" "$work/whole.z80"
+        [ "$kind" = kill ] || [ "$(ls "$folder")" = out.z80 ]
+    done
+    [ "$faults" -ge 15 ]
+}
+full_disk() {
+    target/snapshot write tests/files/48k-text.z80 -o "$work/whole.z80"
+    every_fault full 3
+    with_fault full 2 write tests/files/48k-text.z80 -o "$work/whole.z80"
+    grep -qF "No space left on device" "$work/err"
+}
+killed() { every_fault kill 137; }
+check "a full disk, at every call: the old file is whole, exit status 3, nothing left behind" full_disk
+check "a kill, at every call: the old file is whole, or the new one" killed
+
+limit() {
+    local status=0
+    cp samples/museum-128k.z80 "$work/limited.z80"
+    (ulimit -f 1; target/snapshot write tests/files/48k-noise.z80 -o "$work/limited.z80") || status=$?
+    [ "$status" -eq 3 ]
+    cmp samples/museum-128k.z80 "$work/limited.z80"
+}
+check "a file past the size limit is an error, not a death" limit
+
+output_full() {
+    local status=0
+    "$tool" view samples/museum-48k.z80 5 >/dev/full 2>"$work/err" || status=$?
+    [ "$status" -eq 3 ]
+    grep -qF "standard output" "$work/err"
+}
+check "standard output that cannot be written is exit status 3" output_full
+
+same_file() {
+    cp tests/files/48k-text.z80 "$work/same.z80"
+    run_tool 0 write "$work/same.z80" -o "$work/same.z80"
+    cmp "$work/same.z80" "$work/whole.z80"
+    ln -sf same.z80 "$work/link.z80"
+    run_tool 0 write samples/museum-48k.z80 -o "$work/link.z80"
+    [ -L "$work/link.z80" ]
+    cmp "$work/same.z80" samples/museum-48k.z80
+    chmod 640 "$work/same.z80"
+    run_tool 0 write samples/museum-128k.z80 -o "$work/same.z80"
+    [ "$(stat -c %a "$work/same.z80")" = 640 ]
+}
+check "a file over itself, a link and the permissions stay" same_file
+
+written_files() {
+    local file count=0
+    for file in $(accepted_files | grep -E '/(48k|128k)-'); do
+        run_tool 0 write "$file" -o "$work/v3.z80"
+        run_tool 0 write "$work/v3.z80" -o "$work/again.z80"
+        cmp "$work/v3.z80" "$work/again.z80"
+        snapdump "$file" | sed '/^filename/d' | grep -E '^(machine|[A-Z]+.?:|ram_page)' | grep -vE '^(ULA|AY)' >"$work/theirs"
+        snapdump "$work/v3.z80" | sed '/^filename/d' | grep -E '^(machine|[A-Z]+.?:|ram_page)' | grep -vE '^(ULA|AY)' >"$work/ours"
+        diff "$work/theirs" "$work/ours"
+        count=$((count + 1))
+    done
+    [ "$count" -ge 20 ]
+}
+check "what write makes is the one file, and libspectrum reads it as the same machine and memory" written_files

@@ -1,0 +1,108 @@
+/* json.c: a machine as JSON, numbers in decimal. */
+#include "tool.h"
+
+/* How many bytes of a name at `s` make one well-formed UTF-8 character; 0 if they make none. */
+static unsigned utf8_length(const unsigned char *s)
+{
+    unsigned more, least = s[0];
+    if (least < 0x80)
+        return 1;
+    if (least < 0xC2 || least > 0xF4)
+        return 0;
+    more = least < 0xE0 ? 1 : least < 0xF0 ? 2 : 3;
+    /* no overlong forms, no surrogates, nothing above 10FFFF */
+    if ((least == 0xE0 && s[1] < 0xA0) || (least == 0xED && s[1] > 0x9F) || (least == 0xF0 && s[1] < 0x90) || (least == 0xF4 && s[1] > 0x8F))
+        return 0;
+    for (unsigned at = 1; at <= more; at++)
+        if ((s[at] & 0xC0) != 0x80)
+            return 0;
+    return more + 1;
+}
+
+static void print_string(FILE *to, const char *string)
+{
+    const unsigned char *s = (const unsigned char *)string;
+    fputc('"', to);
+    while (*s != 0) {
+        unsigned length = utf8_length(s);
+        if (length == 0)
+            fputs("\\ufffd", to);
+        else if (*s == '"' || *s == '\\')
+            fprintf(to, "\\%c", *s);
+        else if (*s < 32 || *s == 127)
+            fprintf(to, "\\u%04x", *s);
+        else
+            fwrite(s, 1, length, to);
+        s += length == 0 ? 1 : length;
+    }
+    fputc('"', to);
+}
+
+static const char *boolean(bool value)
+{
+    return value ? "true" : "false";
+}
+
+static void print_numbers(FILE *to, const uint8_t *bytes, unsigned count)
+{
+    for (unsigned at = 0; at < count; at++)
+        fprintf(to, "%s%u", at == 0 ? "[" : ", ", bytes[at]);
+    fputs("]", to);
+}
+
+/* What a 48K machine does not have is null. */
+static void print_json_ports(FILE *to, const struct machine *m)
+{
+    fprintf(to, "  \"border\": %u,\n  \"ports\": ", m->border);
+    if (m->is_128k) {
+        fprintf(to, "{\"7FFD\": %u, \"FFFD\": %u, \"sound\": ", m->out_7ffd, m->out_fffd);
+        print_numbers(to, m->sound, sizeof m->sound);
+        fputs("},\n", to);
+    } else {
+        fputs("null,\n", to);
+    }
+}
+
+static void print_json_settings(FILE *to, const struct machine *m)
+{
+    fprintf(to, "  \"clock\": {\"position\": %u, \"frame\": %u},\n", (unsigned)m->position, (unsigned)m->frame);
+    fprintf(to, "  \"settings\": {\"issue_2\": %s, \"double_interrupts\": %s, \"video\": \"%s\", \"joystick\": \"%s\"},\n", boolean(m->issue_2), boolean(m->double_interrupts), m->video, joystick_names[m->joystick]);
+    fprintf(to, "  \"emulation\": {\"byte_36\": %u, \"byte_37\": %u, \"bytes_59_61_85\": ", m->byte_36, m->byte_37);
+    print_numbers(to, m->side, sizeof m->side);
+    fputs("},\n", to);
+}
+
+static void print_json_pages(FILE *to, const struct machine *m, const struct opened *opened)
+{
+    const char *before = "";
+    fputs("  \"pages\": [", to);
+    for (unsigned page = 0; page < 8; page++) {
+        if (!owns_page(m, page))
+            continue;
+        unsigned address = page_address(m, page);
+        fprintf(to, "%s\n    {\"page\": %u, \"address\": ", before, page);
+        if (address != 0)
+            fprintf(to, "%u", address);
+        else
+            fputs("null", to);
+        fprintf(to, ", \"not_zero\": %u}", bytes_not_zero(opened, page));
+        before = ",";
+    }
+    fputs("\n  ]\n", to);
+}
+
+void print_json(FILE *to, const char *file, const struct opened *opened)
+{
+    struct machine m = machine_of(opened->header);
+    fputs("{\n  \"file\": ", to);
+    print_string(to, file);
+    fprintf(to, ",\n  \"machine\": \"%s\",\n  \"attachment\": \"%s\",\n  \"registers\": {", m.is_128k ? "128K" : "48K", m.attachment);
+    for (unsigned pair = 0; pair < SNAP_PAIRS; pair++)
+        fprintf(to, "\"%s\": %u, ", pair_names[pair], m.pairs[pair]);
+    fprintf(to, "\"I\": %u, \"R\": %u},\n", m.i, m.r);
+    fprintf(to, "  \"interrupts\": {\"mode\": %u, \"iff1\": %s, \"iff2\": %s},\n", m.interrupt_mode, boolean(m.iff1), boolean(m.iff2));
+    print_json_ports(to, &m);
+    print_json_settings(to, &m);
+    print_json_pages(to, &m, opened);
+    fputs("}\n", to);
+}
