@@ -9,7 +9,6 @@ ghost use mathlib.Core.Path.{_≡_};
 ghost use lib.ListN.{length, take, drop};
 ghost use Rattle.slices.specs.Put.{put};
 ghost use Rattle.packing.specs.Packed.{unpacked};
-ghost use Rattle.slices.specs.Choose.{both};
 ghost use Rattle.blocks.specs.Blocks.{pageOf, allThere, sizeOf, blocksInto};
 ghost use Rattle.blocks.specs.Body.{marked, spread, spreadFrom, bodyInto};
 ghost use Rattle.blocks.specs.Inner.{Fills, HeadSays, StepSays, Tells};
@@ -33,12 +32,6 @@ pub enum BlockHead {
 pub enum Step {
     Stop(Refusal),
     Next { page: usize, at: usize },
-}
-
-fn and(a: bool, b: bool) -> bool
-    ensures { λ r. ⌜ r ≡ both a b ⌝ }
-{
-    if a { b } else { false }
 }
 
 fn word(low: u8, high: u8) -> usize
@@ -80,10 +73,10 @@ fn all_there(model: Model, seen: [bool; 8]) -> bool
     ensures { λ r. ⌜ r ≡ allThere model seen ⌝ }
 {
     match model {
-        Model::K48 => and(seen[5], and(seen[2], seen[0])),
-        Model::K128 => and(
-            and(and(seen[0], seen[1]), and(seen[2], seen[3])),
-            and(and(seen[4], seen[5]), and(seen[6], seen[7])),
+        Model::K48 => slices::and(seen[5], slices::and(seen[2], seen[0])),
+        Model::K128 => slices::and(
+            slices::and(slices::and(seen[0], seen[1]), slices::and(seen[2], seen[3])),
+            slices::and(slices::and(seen[4], seen[5]), slices::and(seen[6], seen[7])),
         ),
     }
 }

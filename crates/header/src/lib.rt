@@ -7,7 +7,7 @@ use spectrum::Attachment;
 use spectrum::Machine;
 use spectrum::Model;
 use spectrum::Refusal;
-ghost use Prim.Native.Nat.{ℕ, _+_, _*_, _/_, _%_, _<_, _≤_};
+ghost use Prim.Native.Nat.{_+_, _<_, _≤_};
 ghost use mathlib.Core.Path.{_≡_};
 ghost use mathlib.Core.List.{_++_};
 ghost use lib.ListN.{length, getD, take, drop};
@@ -52,17 +52,11 @@ pub struct Taken {
     pub machine: Machine,
 }
 
-pub fn word_of(low: u8, high: u8) -> u16
-    ensures { λ r. ⌜ r ≡ low + 256 * high ⌝ }
-{
-    low as u16 + 256 * (high as u16)
-}
-
 pub fn word(s: &[u8], place: usize) -> u16
     requires { ⌜ place + 1 < length (now s) ⌝ }
     ensures { λ r. ⌜ r ≡ wordAt (now (s .entry)) place ⌝ }
 {
-    word_of(s[place], s[place + 1])
+    slices::word_of(s[place], s[place + 1])
 }
 
 // Byte 12, where 255 counts as 1.

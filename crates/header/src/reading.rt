@@ -36,11 +36,11 @@ fn pairs_with(s: &[u8], pc: u16) -> [u16; 12]
     ensures { λ r. ⌜ r ≡ pairsBefore (now (s .entry)) pc ⌝ }
 {
     [
-        crate::word_of(s[1], s[0]),
+        slices::word_of(s[1], s[0]),
         crate::word(s, 2),
         crate::word(s, 13),
         crate::word(s, 4),
-        crate::word_of(s[22], s[21]),
+        slices::word_of(s[22], s[21]),
         crate::word(s, 15),
         crate::word(s, 17),
         crate::word(s, 19),

@@ -10,7 +10,6 @@ ghost use mathlib.Core.Path.{_≡_};
 ghost use mathlib.Core.Bool.{true};
 ghost use mathlib.Core.List.{List};
 ghost use lib.ListN.{length, replicate};
-ghost use Rattle.slices.specs.Choose.{both};
 ghost use Rattle.spectrum.specs.declared.Answer.the-variants.{Accepted, Refused};
 ghost use Rattle.journal.specs.Model.{byteAt, pairTo, outTo};
 ghost use Rattle.journal.specs.Steps.{capacity, putStep, stepAt, present, placed, bytes, is128, tagIntact, intact};
@@ -105,22 +104,10 @@ fn capacity_of(log: &[u8]) -> usize
     4096
 }
 
-fn two(low: u8, high: u8) -> u16
-    ensures { λ r. ⌜ r ≡ low + 256 * high ⌝ }
-{
-    (low as u16) + 256 * (high as u16)
-}
-
 fn wide(x: u8) -> u16
     ensures { λ r. ⌜ r ≡ x ⌝ }
 {
     x as u16
-}
-
-fn and(a: bool, b: bool) -> bool
-    ensures { λ r. ⌜ r ≡ both a b ⌝ }
-{
-    if a { b } else { false }
 }
 
 // The step at a number of the log.
@@ -129,10 +116,10 @@ fn step_at(log: &[u8], k: usize) -> Step
     ensures { λ r. ⌜ r ≡ stepAt (now (log .entry)) k ⌝ }
 {
     let p = k * 11;
-    let size = two(log[p + 1], log[p + 2]);
-    let offset = two(log[p + 4], log[p + 5]);
-    let old = two(log[p + 6], log[p + 7]);
-    let new = two(log[p + 8], log[p + 9]);
+    let size = slices::word_of(log[p + 1], log[p + 2]);
+    let offset = slices::word_of(log[p + 4], log[p + 5]);
+    let old = slices::word_of(log[p + 6], log[p + 7]);
+    let new = slices::word_of(log[p + 8], log[p + 9]);
     Step {
         tag: log[p],
         size: size,
@@ -178,25 +165,28 @@ fn is_128(model: Model) -> bool
 fn is_intact(model: Model, s: Step) -> bool
     ensures { λ r. ⌜ r ≡ intact model s ⌝ }
 {
-    and(s.size == 8, and(s.last == 0, tag_intact(model, s)))
+    slices::and(s.size == 8, slices::and(s.last == 0, tag_intact(model, s)))
 }
 
 fn tag_intact(model: Model, s: Step) -> bool
     ensures { λ r. ⌜ r ≡ tagIntact model s ⌝ }
 {
     let tag = s.tag;
-    let small = and(s.old < 256, s.new < 256);
+    let small = slices::and(s.old < 256, s.new < 256);
     if tag == 1 {
         let mine = spectrum::owns(model, s.index as usize);
-        return and(mine, and(s.offset < 16384, small));
+        return slices::and(mine, slices::and(s.offset < 16384, small));
     }
     if tag == 2 {
-        return and(s.index < 12, s.offset == 0);
+        return slices::and(s.index < 12, s.offset == 0);
     }
     let big = is_128(model);
-    and(
+    slices::and(
         tag == 3,
-        and(big, and(s.index == 0, and(s.offset == 0, small))),
+        slices::and(
+            big,
+            slices::and(s.index == 0, slices::and(s.offset == 0, small)),
+        ),
     )
 }
 

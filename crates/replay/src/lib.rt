@@ -82,12 +82,6 @@ fn call_count(calls: &[u8], room: usize) -> usize
     if n < room { n } else { room }
 }
 
-fn two(low: u8, high: u8) -> u16
-    ensures { λ r. ⌜ r ≡ low + 256 * high ⌝ }
-{
-    (low as u16) + 256 * (high as u16)
-}
-
 // The call at a number of the list.
 fn call_at(calls: &[u8], i: usize) -> Call
     requires { ⌜ i * 4 + 4 ≤ length (now calls) ⌝ }
@@ -98,7 +92,7 @@ fn call_at(calls: &[u8], i: usize) -> Call
     let a = calls[at + 1];
     let b = calls[at + 2];
     let c = calls[at + 3];
-    let w = two(a, b);
+    let w = slices::word_of(a, b);
     if kind == 0 {
         return Call::Byte(w, c);
     }

@@ -4,7 +4,6 @@ ghost use mathlib.Core.Path.{_≡_};
 ghost use mathlib.Core.Bool.{not};
 ghost use lib.ListN.{getD};
 ghost use lib.Dec.{ltb};
-ghost use Rattle.slices.specs.Choose.{both};
 ghost use Rattle.spectrum.specs.Machine.{withPair, withOut, blankMachine};
 ghost use Rattle.spectrum.specs.Valid.{Typed, zeros, quietOf, validOf};
 ghost use Rattle.spectrum.specs.Pages.{owned, topPage, placeOf};
@@ -176,7 +175,10 @@ impl Machine {
         let joystick = below(switches.joystick as u32, 4);
         let position = below(self.position, clock_end(model));
         let quiet = self.quiet();
-        and(im, and(border, and(joystick, and(position, quiet))))
+        slices::and(
+            im,
+            slices::and(border, slices::and(joystick, slices::and(position, quiet))),
+        )
     }
 
     // Whether what a 48K machine does not carry is 0.
@@ -186,7 +188,10 @@ impl Machine {
         let model = self.model;
         let sound = self.sound;
         match model {
-            Model::K48 => and(self.out7ffd == 0, and(self.outfffd == 0, silent16(&sound))),
+            Model::K48 => slices::and(
+                self.out7ffd == 0,
+                slices::and(self.outfffd == 0, silent16(&sound)),
+            ),
             Model::K128 => true,
         }
     }
@@ -222,12 +227,6 @@ impl Machine {
     pub fn typed(self)
         ensures { λ _. ⌜ Typed self ⌝ }
     {}
-}
-
-fn and(a: bool, b: bool) -> bool
-    ensures { λ r. ⌜ r ≡ both a b ⌝ }
-{
-    if a { b } else { false }
 }
 
 fn below(a: u32, b: u32) -> bool

@@ -27,8 +27,8 @@ add-c c = search needs
 shared-slice-read-c : tie.Need-shared-slice-read-c
 shared-slice-read-c c = search needs
 
-two-requires : tie.Need-two-requires
-two-requires c κs = search needs
+word-of-requires : tie.Need-word-of-requires
+word-of-requires c κs = search needs
 
 returns : tie.Need-returns
 returns c = search at-byte
@@ -57,7 +57,7 @@ call-at-spec =
     shared-slice-read-b
     add-c
     shared-slice-read-c
-    two-requires
+    word-of-requires
     returns
     returns-2
     returns-3
