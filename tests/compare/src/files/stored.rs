@@ -32,6 +32,14 @@ pub fn table(dir: &Path, samples: &[Sample]) -> Outcome {
     Ok(())
 }
 
+type Read = fn(&[u8], &mut [u8], &mut [u8]) -> u32;
+
+/// Both readers, each with how its buffers are dirty before.
+const READERS: [(&str, Read, u64); 2] = [
+    ("library", ffi_snapshot::read, 5),
+    ("reference", read_bytes, 7),
+];
+
 /// The library and the reference read the file alike, and as it was made.
 pub fn read(group: &mut Group, dir: &Path, sample: &Sample) -> Outcome {
     let file = fs::read(dir.join(sample.file_name())).map_err(text)?;
@@ -40,47 +48,18 @@ pub fn read(group: &mut Group, dir: &Path, sample: &Sample) -> Outcome {
         0 => (sample.memory.clone(), header(&sample.machine)),
         _ => (vec![0; MEMORY], header(&Machine::blank())),
     };
-    let (mut area, mut bytes) = (Lent::new(MEMORY, 5), Lent::new(HEADER, 6));
-    let number = ffi_snapshot::read(&file, area.part_mut(), bytes.part_mut());
-    judge(
-        "library",
-        sample.number,
-        number,
-        area,
-        bytes,
-        &memory,
-        &machine,
-    )?;
-    let (mut area, mut bytes) = (Lent::new(MEMORY, 7), Lent::new(HEADER, 8));
-    let number = read_bytes(&file, area.part_mut(), bytes.part_mut());
-    judge(
-        "reference",
-        sample.number,
-        number,
-        area,
-        bytes,
-        &memory,
-        &machine,
-    )
-}
-
-fn judge(
-    who: &str,
-    expected: u32,
-    number: u32,
-    area: Lent,
-    bytes: Lent,
-    memory: &[u8],
-    machine: &[u8],
-) -> Outcome {
-    if number != expected {
-        return Err(format!("{who} answers {number}"));
-    }
-    if let Some(what) = area.difference(memory) {
-        return Err(format!("{who}: area: {what}"));
-    }
-    if let Some(what) = bytes.difference(machine) {
-        return Err(format!("{who}: header: {what}"));
+    for (who, read, fill) in READERS {
+        let (mut area, mut bytes) = (Lent::new(MEMORY, fill), Lent::new(HEADER, fill + 1));
+        let number = read(&file, area.part_mut(), bytes.part_mut());
+        if number != sample.number {
+            return Err(format!("{who} answers {number}"));
+        }
+        if let Some(what) = area.difference(&memory) {
+            return Err(format!("{who}: area: {what}"));
+        }
+        if let Some(what) = bytes.difference(&machine) {
+            return Err(format!("{who}: header: {what}"));
+        }
     }
     Ok(())
 }

@@ -3,29 +3,11 @@
 use super::checks::Checker;
 use super::forge::{self, MODELS, MOVES};
 use super::lists::header;
+use compare::choice::Choice;
 use compare::report::{Group, Outcome};
 use reference::journal::{capacity, Call, Correction, Step, LOCK};
 use reference::machine::{Model, HEADER};
 use reference::memory::{Rng, MEMORY};
-
-/// A choice of faults: the bit of each one's place in the order.
-struct Choice {
-    order: [u32; 5],
-    bits: usize,
-}
-
-impl Choice {
-    fn has(&self, number: u32) -> bool {
-        let place = self.order.iter().position(|n| *n == number);
-        place.is_some_and(|place| self.bits >> place & 1 == 1)
-    }
-
-    /// The first chosen number, or 0.
-    fn first(&self) -> u32 {
-        let chosen = self.order.iter().find(|number| self.has(**number));
-        chosen.copied().unwrap_or(0)
-    }
-}
 
 /// Every choice of faults of a correction, on both models.
 pub fn corrections(group: &mut Group, check: &mut Checker, rng: &mut Rng) -> Outcome {
@@ -38,7 +20,7 @@ pub fn corrections(group: &mut Group, check: &mut Checker, rng: &mut Rng) -> Out
         (Model::K128, 25),
     ] {
         for case in 0..32 * 12 {
-            let order = [20, 21, 29, own, 26];
+            let order = &[20, 21, 29, own, 26];
             // an OUT on 48K has its fault always
             let bits = (case % 32) | (usize::from(own == 24) << 3);
             let choice = Choice { order, bits };
@@ -111,9 +93,8 @@ fn common(check: &mut Checker, rng: &mut Rng, bad_header: bool, bad_area: bool) 
 /// Every choice of faults of an undo and of a redo.
 pub fn moves(group: &mut Group, check: &mut Checker, rng: &mut Rng) -> Outcome {
     for case in 0..32 * 60 {
-        let order = [20, 21, 29, 27, 28];
         let choice = Choice {
-            order,
+            order: &[20, 21, 29, 27, 28],
             bits: case % 32,
         };
         let (model, asked) = (MODELS[case / 32 % 2], MOVES[case / 64 % 2]);

@@ -1,7 +1,7 @@
 //! Groups that pack. Every input is also unpacked again, and its length asked for.
 
 use super::checks::Checker;
-use super::lists;
+use super::{lists, random_list};
 use crate::ffi_packing;
 use compare::report::{hex, Group, Outcome};
 use reference::memory::{images, Rng, MEMORY, PAGE};
@@ -46,12 +46,7 @@ pub fn random_runs(group: &mut Group, check: &mut Checker, rng: &mut Rng) -> Out
 
 pub fn random_bytes(group: &mut Group, check: &mut Checker, rng: &mut Rng) -> Outcome {
     for case in 0..200_000 {
-        let length = rng.below(if case % 100 == 0 { 3000 } else { 40 });
-        let src: Vec<u8> = if case % 2 == 0 {
-            rng.bytes(length)
-        } else {
-            (0..length).map(|_| rng.likely_byte()).collect()
-        };
+        let src = random_list(rng, case);
         check.pack(group, &src, &[rng.below(60)])?;
     }
     Ok(())

@@ -6,6 +6,7 @@ use super::faults::{applies, damage};
 use super::header_groups::expect;
 use super::maker::Maker;
 use super::sample::Block;
+use compare::choice::Choice;
 use compare::report::{Group, Outcome};
 use reference::machine::Version;
 use reference::memory::{Rng, PAGE};
@@ -14,42 +15,23 @@ use reference::packing::ED;
 const BLOCK_ORDER: [u32; 6] = [8, 9, 10, 11, 12, 13];
 const V1_ORDER: [u32; 5] = [4, 5, 14, 11, 12];
 
-/// A choice of faults: the bit of each one's place in the order.
-struct Choice<'a> {
-    order: &'a [u32],
-    bits: usize,
-}
-
-impl Choice<'_> {
-    fn has(&self, number: u32) -> bool {
-        let place = self.order.iter().position(|n| *n == number);
-        place.is_some_and(|place| self.bits >> place & 1 == 1)
-    }
-
-    /// The first chosen number, or 0.
-    fn first(&self) -> u32 {
-        let chosen = self.order.iter().find(|number| self.has(**number));
-        chosen.copied().unwrap_or(0)
-    }
-
-    /// Packed data for `full` bytes, malformed or of another length if chosen.
-    fn data(&self, full: usize, rng: &mut Rng) -> Vec<u8> {
-        let length = match self.has(12) {
-            true => rng.pick(&[0, 100, full - 1, full + 1, 2 * full]),
-            false => full,
-        };
-        let mut data = constant(length, 0x41);
-        if self.has(11) {
-            match rng.below(3) {
-                0 => data.extend([ED, ED]),
-                1 => data.extend([ED, ED, 9]),
-                _ => {
-                    data.splice(0..0, [ED, ED, 0, 0x41]);
-                }
+/// Packed data for `full` bytes, malformed or of another length if chosen.
+fn data(choice: &Choice, full: usize, rng: &mut Rng) -> Vec<u8> {
+    let length = match choice.has(12) {
+        true => rng.pick(&[0, 100, full - 1, full + 1, 2 * full]),
+        false => full,
+    };
+    let mut data = constant(length, 0x41);
+    if choice.has(11) {
+        match rng.below(3) {
+            0 => data.extend([ED, ED]),
+            1 => data.extend([ED, ED, 9]),
+            _ => {
+                data.splice(0..0, [ED, ED, 0, 0x41]);
             }
         }
-        data
     }
+    data
 }
 
 /// Every choice of faults in the last block, with and without another block missing.
@@ -68,7 +50,7 @@ pub fn in_a_block(group: &mut Group, check: &mut Checker, maker: &mut Maker) -> 
             (false, true) => seen,
             (false, false) => own,
         };
-        let coding = Coding::packed(choice.data(PAGE, &mut maker.rng));
+        let coding = Coding::packed(data(&choice, PAGE, &mut maker.rng));
         sample.blocks[last] = Block { number, coding };
         if choice.has(13) {
             sample.blocks.remove(1);
@@ -96,7 +78,7 @@ pub fn in_v1(group: &mut Group, check: &mut Checker, maker: &mut Maker) -> Outco
         if choice.has(5) {
             sample.header[29] |= 3;
         }
-        sample.body = choice.data(3 * PAGE, &mut maker.rng);
+        sample.body = data(&choice, 3 * PAGE, &mut maker.rng);
         if choice.has(14) {
             sample.marker[maker.rng.below(4)] ^= 1;
         }

@@ -68,11 +68,7 @@ fn read_blocks(model: Model, mut body: &[u8], area: &mut [u8]) -> Result<(), Ref
     let (mut seen, mut count) = ([false; 8], 0);
     while !body.is_empty() {
         let block = next_block(body)?;
-        let page = blocks.iter().find(|(number, _)| *number == block.number);
-        let (_, page) = *page.ok_or(Refusal::BlockNumber)?;
-        if seen[page] {
-            return Err(Refusal::BlockTwice);
-        }
+        let page = block.page(blocks, &seen)?;
         let part = &mut area[page * PAGE..][..PAGE];
         if block.length == PLAIN {
             part.copy_from_slice(block.data);

@@ -70,11 +70,7 @@ fn block_memory(model: Model, mut body: &[u8]) -> Result<Vec<u8>, Refusal> {
     let mut seen = [false; 8];
     while !body.is_empty() {
         let block = next_block(body)?;
-        let page = blocks.iter().find(|(number, _)| *number == block.number);
-        let (_, page) = *page.ok_or(Refusal::BlockNumber)?;
-        if seen[page] {
-            return Err(Refusal::BlockTwice);
-        }
+        let page = block.page(blocks, &seen)?;
         seen[page] = true;
         let bytes = match block.length {
             PLAIN => block.data.to_vec(),
@@ -98,6 +94,18 @@ pub struct Block<'a> {
     pub number: u8,
     pub data: &'a [u8],
     pub after: &'a [u8],
+}
+
+impl Block<'_> {
+    /// The RAM page of a block number that is one of the model's and was not seen before.
+    pub fn page(&self, blocks: &[(u8, usize)], seen: &[bool; 8]) -> Result<usize, Refusal> {
+        let page = blocks.iter().find(|(number, _)| *number == self.number);
+        let (_, page) = *page.ok_or(Refusal::BlockNumber)?;
+        match seen[page] {
+            true => Err(Refusal::BlockTwice),
+            false => Ok(page),
+        }
+    }
 }
 
 pub fn next_block(body: &[u8]) -> Result<Block<'_>, Refusal> {
