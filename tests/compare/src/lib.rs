@@ -1,6 +1,9 @@
-//! What every comparison uses: lent parts between guard bytes, choices of faults, and the report.
-#![forbid(unsafe_code)]
+//! What the comparisons use: checked calls of the library, lent parts between guard bytes, choices of faults, and the
+//! report.
+#![deny(unsafe_code)]
 
+pub mod calls;
 pub mod choice;
+pub mod ffi_snapshot;
 pub mod lent;
 pub mod report;

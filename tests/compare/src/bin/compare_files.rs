@@ -3,8 +3,6 @@
 //! compare_files [FILES [WRITTEN]]: the stored files (tests/files), and where to write (target/written).
 #![deny(unsafe_code)]
 
-#[path = "../ffi_snapshot.rs"]
-mod ffi_snapshot;
 #[path = "../files/mod.rs"]
 mod files;
 

@@ -2,13 +2,11 @@
 //! reference: lists of calls with the model, damaged logs and invented numbers with the rules of the log.
 #![deny(unsafe_code)]
 
-#[path = "../ffi_snapshot.rs"]
-mod ffi_snapshot;
 #[path = "../journal/mod.rs"]
 mod journal;
 
+use compare::calls::journal::Checker;
 use compare::report::{Group, Outcome, Report};
-use journal::checks::Checker;
 use journal::list_groups::with_log;
 use journal::{fault_groups, header_groups, order_groups, start_groups, step_groups, view_groups};
 use reference::memory::Rng;

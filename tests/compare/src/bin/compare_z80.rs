@@ -1,14 +1,12 @@
 //! Compares reading and writing of `.z80` files by the library with the reference on generated files.
 #![deny(unsafe_code)]
 
-#[path = "../ffi_snapshot.rs"]
-mod ffi_snapshot;
 #[path = "../z80/mod.rs"]
 mod z80;
 
+use compare::calls::files::Checker;
 use compare::report::{Group, Outcome, Report};
 use std::process::ExitCode;
-use z80::checks::Checker;
 use z80::maker::Maker;
 use z80::{block_groups, fault_groups, header_groups, order_groups, write_groups};
 
@@ -58,7 +56,6 @@ fn main() -> ExitCode {
         write_groups::buffers(g, check, maker)
     });
     report.group("the longest file", |g| write_groups::longest_file(g, check));
-    let seen = write_groups::numbers_seen(check, LEAST_FILES);
-    report.fact("every number seen", seen);
+    report.fact("every number seen", check.numbers_seen(LEAST_FILES));
     report.finish()
 }

@@ -1,6 +1,6 @@
 //! Stored files: the library reads what went in, or gives the expected number.
 
-use crate::ffi_snapshot;
+use compare::ffi_snapshot;
 use compare::lent::Lent;
 use compare::report::{Group, Outcome};
 use reference::machine::{header, Machine, HEADER};

@@ -2,7 +2,7 @@
 //! it must find in them.
 
 use super::stored::text;
-use crate::ffi_snapshot;
+use compare::ffi_snapshot;
 use compare::report::Outcome;
 use reference::machine::{header, HEADER};
 use reference::samples::{settings, Sample, Storing};

@@ -1,9 +1,10 @@
 //! Lists of calls against the model, which never sees a log byte.
 
-use super::checks::Checker;
-use super::library::{answer, note, outcome, Library};
 use super::lists::{machine, Lister};
-use super::seen::Function;
+use compare::calls::journal::Checker;
+use compare::calls::library::Library;
+use compare::calls::seen::Function;
+use compare::calls::{answer, note, outcome};
 use compare::report::{hex, Group, Outcome};
 use reference::journal::{capacity, page_at, Call, Correction, Replay, Step, PAIRS, STEP};
 use reference::machine::{header, Model};
@@ -165,10 +166,7 @@ impl Run<'_> {
 
     /// Header, both numbers, and every guard.
     fn state(&self, wrong: &mut Vec<String>) {
-        let expected = header(&self.model.now().machine);
-        note(wrong, "header", self.library.header.difference(&expected));
-        let (standing, total) = (self.model.standing(), self.model.total());
-        wrong.extend(self.library.numbers(standing, total));
+        self.library.against(&self.model, wrong);
         note(wrong, "area", self.library.area.guards());
         note(wrong, "log", self.library.log.guards());
     }

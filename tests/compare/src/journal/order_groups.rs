@@ -1,8 +1,8 @@
 //! Groups with several faults at once, where the first number of the order is given, and invented numbers.
 
-use super::checks::Checker;
 use super::forge::{self, MODELS, MOVES};
 use super::lists::header;
+use compare::calls::journal::Checker;
 use compare::choice::Choice;
 use compare::report::{Group, Outcome};
 use reference::journal::{capacity, Call, Correction, Step, LOCK};

@@ -1,8 +1,6 @@
 //! Groups that start a log, and the examples of the rules.
 
-use super::checks::Checker;
-use super::library::{answer, note, outcome};
-use super::seen::Function;
+use compare::calls::journal::Checker;
 use compare::report::{Group, Outcome};
 use reference::journal::{Call, Correction};
 use reference::machine::{header, Machine, Model};
@@ -15,15 +13,7 @@ pub fn lengths(group: &mut Group, check: &mut Checker) -> Outcome {
     ];
     for length in (0..=1_200).chain(long) {
         for _ in 0..8 {
-            group.inputs += 1;
-            let given = check.library.start(length);
-            check.seen.add(Function::Start, given);
-            let mut wrong = Vec::new();
-            answer(&mut wrong, given, 0);
-            let log = check.library.log.difference(&vec![0; length]);
-            note(&mut wrong, "log", log);
-            wrong.extend(check.library.numbers(0, 0));
-            outcome(wrong).map_err(|what| format!("log of {length} bytes: {what}"))?;
+            check.start(group, length)?;
         }
     }
     Ok(())

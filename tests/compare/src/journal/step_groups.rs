@@ -1,7 +1,7 @@
 //! Groups of steps with every value in one field, the rest good.
 
-use super::checks::Checker;
 use super::forge::{self, MODELS, MOVES};
+use compare::calls::journal::Checker;
 use compare::report::{Group, Outcome};
 use reference::journal::{Call, Step};
 use reference::machine::Model;

@@ -1,16 +1,12 @@
 //! Groups that view a page.
 
-use super::checks::Checker;
-use super::library::{answer, note, outcome};
 use super::lists::header;
-use super::seen::Function;
-use crate::ffi_snapshot::{self as ffi, Viewed};
+use compare::calls::journal::Checker;
+use compare::calls::{note, outcome, view};
 use compare::lent::Lent;
 use compare::report::{Group, Outcome};
-use reference::journal::{view, View};
 use reference::machine::{Model, HEADER};
 use reference::memory::{Rng, MEMORY, PAGE};
-use std::hint::black_box;
 
 const ROMS: [usize; 13] = [
     0,
@@ -30,9 +26,6 @@ const ROMS: [usize; 13] = [
 
 const AREAS: [usize; 7] = [0, 1, PAGE, MEMORY - 1, MEMORY, MEMORY + 1, 2 * MEMORY];
 
-/// What lies beside and in the three numbers before a call.
-const DIRTY: (u8, u64) = (0xA5, 0xA5A5_5A5A_A5A5_5A5A);
-
 /// Every page with every length of ROM and area, both models and headers of other kinds.
 pub fn every_page(group: &mut Group, check: &mut Checker, rng: &mut Rng) -> Outcome {
     for rom in ROMS {
@@ -44,7 +37,7 @@ pub fn every_page(group: &mut Group, check: &mut Checker, rng: &mut Rng) -> Outc
                 let bytes_lent = Lent::holding(&bytes, rng.word());
                 for page in 0..=255 {
                     group.inputs += 1;
-                    one(check, &bytes_lent, &rom, &area, page)?;
+                    view::call(&mut check.seen, &bytes_lent, &rom, &area, page)?;
                 }
                 let mut wrong = Vec::new();
                 note(&mut wrong, "header", bytes_lent.difference(&bytes));
@@ -85,41 +78,10 @@ pub fn every_header_byte(group: &mut Group, check: &mut Checker, rng: &mut Rng) 
                 let bytes = Lent::holding(&bytes, rng.word());
                 for page in [0, 1, 8, 9, rng.byte()] {
                     group.inputs += 1;
-                    one(check, &bytes, &rom, &area, page)?;
+                    view::call(&mut check.seen, &bytes, &rom, &area, page)?;
                 }
             }
         }
     }
     Ok(())
-}
-
-/// One view, its three numbers between cells that must stay.
-fn one(check: &mut Checker, header: &Lent, rom: &Lent, area: &Lent, page: u8) -> Outcome {
-    let (rom_length, area_length) = (rom.part().len(), area.part().len());
-    let (number, expected) = view(header.part(), rom_length, area_length, page);
-    let (mut small, mut cells) = ([DIRTY.0; 3], [DIRTY.1; 5]);
-    let from = Viewed {
-        header: header.part(),
-        rom: rom.part(),
-        area: area.part(),
-    };
-    let [_, start, _, length, _] = &mut cells;
-    let given = ffi::view(from, page, &mut small[1], start, length);
-    check.seen.add(Function::View, given);
-    let (small, cells) = (black_box(small), black_box(cells));
-    let part = View {
-        in_rom: small[1],
-        start: cells[1],
-        length: cells[3],
-    };
-    let mut wrong = Vec::new();
-    answer(&mut wrong, given, number);
-    if part != expected {
-        wrong.push(format!("{part:?}, should be {expected:?}"));
-    }
-    if [small[0], small[2]] != [DIRTY.0; 2] || [cells[0], cells[2], cells[4]] != [DIRTY.1; 3] {
-        wrong.push("a cell beside the three numbers was changed".into());
-    }
-    let lengths = format!("ROM of {rom_length} bytes, area of {area_length}");
-    outcome(wrong).map_err(|what| format!("page {page}, {lengths}: {what}"))
 }

@@ -1,10 +1,10 @@
 //! Groups that read good files of many kinds, lists of blocks, and files changed at random.
 
-use super::checks::Checker;
 use super::coding::Coding;
 use super::header_groups::expect;
 use super::maker::{Maker, VERSIONS};
 use super::sample::Block;
+use compare::calls::files::Checker;
 use compare::report::{Group, Outcome};
 use reference::machine::{Model, Version};
 use reference::memory::{images, PAGE};

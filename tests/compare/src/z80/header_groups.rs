@@ -1,8 +1,8 @@
 //! Groups that read files with every value in a header byte, and buffers of other lengths.
 
-use super::checks::Checker;
 use super::faults::other_blocks;
 use super::maker::{Maker, VERSIONS};
+use compare::calls::files::Checker;
 use compare::report::{Group, Outcome};
 use reference::machine::{header, Machine, Version, HEADER};
 use reference::memory::MEMORY;

@@ -1,7 +1,6 @@
-//! The comparison of `.z80` files: the calls that are checked, the files made for them, and the groups.
+//! The comparison of `.z80` files: the files made for it, and the groups.
 
 pub mod block_groups;
-pub mod checks;
 pub mod coding;
 pub mod fault_groups;
 pub mod faults;

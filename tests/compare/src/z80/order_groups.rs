@@ -1,11 +1,11 @@
 //! Groups that read files with several faults at once: the first number of the order is given.
 
-use super::checks::Checker;
 use super::coding::{constant, Coding};
 use super::faults::{applies, damage};
 use super::header_groups::expect;
 use super::maker::Maker;
 use super::sample::Block;
+use compare::calls::files::Checker;
 use compare::choice::Choice;
 use compare::report::{Group, Outcome};
 use reference::machine::Version;

@@ -1,8 +1,8 @@
 //! Groups that write.
 
-use super::checks::Checker;
 use super::header_groups::expect;
 use super::maker::Maker;
+use compare::calls::files::Checker;
 use compare::report::{Group, Outcome};
 use reference::machine::{header, own_header, Machine, Model, Version, HEADER};
 use reference::memory::{images, Rng, MEMORY};
@@ -156,26 +156,4 @@ pub fn longest_file(group: &mut Group, check: &mut Checker) -> Outcome {
         return Err(format!("the longest file has {} bytes", check.longest));
     }
     Ok(())
-}
-
-/// Every number of both calls was among the ones compared, and enough files were read.
-pub fn numbers_seen(check: &Checker, least_files: u64) -> Outcome {
-    let reads = (0..=14).chain([20]).map(|n| ("read", n, check.reads[n]));
-    let writes = [0, 20, 21, 22].map(|n| ("write", n, check.writes[n]));
-    let all: Vec<_> = reads.chain(writes).collect();
-    for call in ["read", "write"] {
-        let of_call = all.iter().filter(|(name, ..)| *name == call);
-        let list: Vec<String> = of_call
-            .map(|(_, n, count)| format!("{n}: {count}"))
-            .collect();
-        println!("    {call}  {}", list.join(", "));
-    }
-    let files: u64 = check.reads.iter().sum();
-    if files < least_files {
-        return Err(format!("only {files} files were read"));
-    }
-    match all.iter().find(|(.., count)| *count == 0) {
-        Some((call, number, _)) => Err(format!("{call} never answered {number}")),
-        None => Ok(()),
-    }
 }

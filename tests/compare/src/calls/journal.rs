@@ -1,8 +1,9 @@
-//! One call on any header, area, log and numbers, compared with the rules: answer and every byte.
+//! One call on any header, area, log and numbers, compared with the rules.
 
-use super::library::{answer, outcome, Library};
+use super::library::Library;
 use super::seen::{Function, Seen};
-use compare::report::{hex, Group, Outcome};
+use super::{answer, note, outcome};
+use crate::report::{hex, Group, Outcome};
 use reference::journal::{call, Buffers, Call, Step};
 use reference::machine::HEADER;
 use reference::memory::MEMORY;
@@ -25,7 +26,7 @@ impl Checker {
         };
         Checker {
             library: Library::new(seed),
-            seen: Seen::new(),
+            seen: Seen::default(),
             lent,
         }
     }
@@ -43,6 +44,21 @@ impl Checker {
             let place = usize::from(step.index) * 16_384 + usize::from(step.offset);
             self.library.area.part_mut()[place] = value as u8;
         }
+    }
+
+    /// Starts a dirty log of this length: it becomes all zero, and both numbers 0.
+    pub fn start(&mut self, group: &mut Group, length: usize) -> Outcome {
+        group.inputs += 1;
+        self.lent.log = vec![0; length];
+        (self.lent.standing, self.lent.total) = (0, 0);
+        let given = self.library.start(length);
+        self.seen.add(Function::Start, given);
+        let mut wrong = Vec::new();
+        answer(&mut wrong, given, 0);
+        let log = self.library.log.difference(&self.lent.log);
+        note(&mut wrong, "log", log);
+        wrong.extend(self.library.numbers(0, 0));
+        outcome(wrong).map_err(|what| format!("log of {length} bytes: {what}"))
     }
 
     /// Makes a call on what is lent, and answers the number.

@@ -1,8 +1,9 @@
-//! One call of the library, compared with the reference: answer, length and every byte.
+//! Reading and writing of files.
 
+use super::{answer, note, outcome};
 use crate::ffi_snapshot;
-use compare::lent::Lent;
-use compare::report::{hex, Group, Outcome};
+use crate::lent::Lent;
+use crate::report::{hex, Group, Outcome};
 use reference::machine::HEADER;
 use reference::memory::{Rng, MEMORY};
 use reference::z80::{read_bytes, write_bytes, LONGEST_FILE};
@@ -13,7 +14,7 @@ const NUMBERS: usize = 23;
 
 /// Makes every lent part dirty before a call and counts the answers given.
 pub struct Checker {
-    fills: Rng,
+    pub fills: Rng,
     area: Lent,
     header: Lent,
     out: Lent,
@@ -74,13 +75,11 @@ impl Checker {
         let (area, header) = (&mut self.area, &mut self.header);
         let given = ffi_snapshot::read(source.part(), area.part_mut(), header.part_mut());
         let mut wrong = Vec::new();
-        if given != number {
-            wrong.push(format!("answer {given}, should be {number}"));
-        }
+        answer(&mut wrong, given, number);
         note(&mut wrong, "area", self.area.difference(memory));
         note(&mut wrong, "header", self.header.difference(machine));
         note(&mut wrong, "file", source.difference(file));
-        outcome(&wrong)
+        outcome(wrong)
     }
 
     /// What was read is written, and read again: the same header and memory.
@@ -128,9 +127,7 @@ impl Checker {
         let (area, out) = (self.area.part(), self.out.part_mut());
         let given = ffi_snapshot::write(source.part(), area, out, &mut cells[1]);
         let mut wrong = Vec::new();
-        if given != number {
-            wrong.push(format!("answer {given}, should be {number}"));
-        }
+        answer(&mut wrong, given, number);
         if black_box(cells) != [dirty, length, dirty] {
             wrong.push(format!("length {}, should be {length}", cells[1]));
         }
@@ -138,19 +135,30 @@ impl Checker {
         note(&mut wrong, "area", self.area.difference(memory));
         note(&mut wrong, "header", source.difference(machine));
         let tell = |what| format!("write {} into {room} bytes: {what}", hex(machine));
-        outcome(&wrong).map_err(tell)?;
+        outcome(wrong).map_err(tell)?;
         file.truncate(length as usize);
         Ok((number, file))
     }
-}
 
-fn note(wrong: &mut Vec<String>, place: &str, what: Option<String>) {
-    wrong.extend(what.map(|what| format!("{place}: {what}")));
-}
-
-fn outcome(wrong: &[String]) -> Outcome {
-    if wrong.is_empty() {
-        return Ok(());
+    /// Every number of both calls was among the ones compared, and enough files were read.
+    pub fn numbers_seen(&self, least_files: u64) -> Outcome {
+        let reads = (0..=14).chain([20]).map(|n| ("read", n, self.reads[n]));
+        let writes = [0, 20, 21, 22].map(|n| ("write", n, self.writes[n]));
+        let all: Vec<_> = reads.chain(writes).collect();
+        for call in ["read", "write"] {
+            let of_call = all.iter().filter(|(name, ..)| *name == call);
+            let list: Vec<String> = of_call
+                .map(|(_, n, count)| format!("{n}: {count}"))
+                .collect();
+            println!("    {call}  {}", list.join(", "));
+        }
+        let files: u64 = self.reads.iter().sum();
+        if files < least_files {
+            return Err(format!("only {files} files were read"));
+        }
+        match all.iter().find(|(.., count)| *count == 0) {
+            Some((call, number, _)) => Err(format!("{call} never answered {number}")),
+            None => Ok(()),
+        }
     }
-    Err(wrong.join("; "))
 }

@@ -1,14 +1,15 @@
 //! The library's side of a comparison: everything lent lies between guards.
 
+use super::note;
 use crate::ffi_snapshot::{self as ffi, Session};
-use compare::lent::Lent;
-use compare::report::Outcome;
-use reference::journal::{Buffers, Call, Correction};
+use crate::lent::Lent;
+use reference::journal::{Buffers, Call, Correction, Replay};
+use reference::machine;
 use reference::memory::Rng;
 use std::hint::black_box;
 
 pub struct Library {
-    fills: Rng,
+    pub fills: Rng,
     pub header: Lent,
     pub area: Lent,
     pub log: Lent,
@@ -99,26 +100,16 @@ impl Library {
         wrong.extend(self.numbers(expected.standing, expected.total));
         wrong
     }
+
+    /// What is wrong with the header and both numbers by the model.
+    pub fn against(&self, model: &Replay, wrong: &mut Vec<String>) {
+        let header = machine::header(&model.now().machine);
+        note(wrong, "header", self.header.difference(&header));
+        wrong.extend(self.numbers(model.standing(), model.total()));
+    }
 }
 
 fn hold(lent: &mut Lent, bytes: &[u8], fill: u64) {
     lent.renew(bytes.len(), fill);
     lent.part_mut().copy_from_slice(bytes);
-}
-
-pub fn note(wrong: &mut Vec<String>, place: &str, what: Option<String>) {
-    wrong.extend(what.map(|what| format!("{place}: {what}")));
-}
-
-pub fn answer(wrong: &mut Vec<String>, given: u32, number: u32) {
-    if given != number {
-        wrong.push(format!("answer {given}, should be {number}"));
-    }
-}
-
-pub fn outcome(wrong: Vec<String>) -> Outcome {
-    match wrong.is_empty() {
-        true => Ok(()),
-        false => Err(wrong.join("; ")),
-    }
 }

@@ -1,6 +1,6 @@
 //! How often each function gave each number, and what each one must have given.
 
-use compare::report::Outcome;
+use crate::report::Outcome;
 use reference::journal::{Call, Correction};
 
 /// One more than the highest number.
@@ -44,13 +44,15 @@ pub struct Seen {
     counts: [[u64; NUMBERS]; 7],
 }
 
-impl Seen {
-    pub fn new() -> Seen {
+impl Default for Seen {
+    fn default() -> Seen {
         Seen {
             counts: [[0; NUMBERS]; 7],
         }
     }
+}
 
+impl Seen {
     /// Counts an answer of the library; one that is no number at all is told elsewhere.
     pub fn add(&mut self, function: Function, number: u32) {
         if let Some(count) = self.counts[function as usize].get_mut(number as usize) {
