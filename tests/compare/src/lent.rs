@@ -7,7 +7,8 @@ const GUARD: usize = 32;
 pub struct Lent {
     buffer: Vec<u8>,
     length: usize,
-    fill: u64,
+    /// What every place holds before a call, from the first on.
+    dirty: [u8; PERIOD + GUARD],
 }
 
 /// The dirty byte at a place: never 0, so that a missing zero is seen.
@@ -25,7 +26,7 @@ impl Lent {
         let mut lent = Lent {
             buffer: Vec::new(),
             length,
-            fill,
+            dirty: [0; PERIOD + GUARD],
         };
         lent.renew(length, fill);
         lent
@@ -33,11 +34,11 @@ impl Lent {
 
     /// The same room as a new part of `length` bytes.
     pub fn renew(&mut self, length: usize, fill: u64) {
-        let pattern: [u8; PERIOD] = std::array::from_fn(|at| dirty(fill, at));
-        (self.length, self.fill) = (length, fill);
+        self.length = length;
+        self.dirty = std::array::from_fn(|at| dirty(fill, at));
         self.buffer.resize(length + 2 * GUARD, 0);
         for part in self.buffer.chunks_mut(PERIOD) {
-            part.copy_from_slice(&pattern[..part.len()]);
+            part.copy_from_slice(&self.dirty[..part.len()]);
         }
     }
 
@@ -59,11 +60,13 @@ impl Lent {
     /// What is wrong with the guards, if anything, after a call.
     pub fn guards(&self) -> Option<String> {
         let buffer = black_box(&self.buffer);
-        let end = GUARD + self.length;
-        for at in (0..GUARD).chain(end..end + GUARD) {
-            if buffer[at] != dirty(self.fill, at) {
-                let place = at as isize - GUARD as isize;
-                return Some(format!("guard byte at {place} is now {:02X}", buffer[at]));
+        for from in [0, GUARD + self.length] {
+            let is = &buffer[from..from + GUARD];
+            let should = &self.dirty[from % PERIOD..][..GUARD];
+            if is != should {
+                let at = is.iter().zip(should).take_while(|(a, b)| a == b).count();
+                let place = (from + at) as isize - GUARD as isize;
+                return Some(format!("guard byte at {place} is now {:02X}", is[at]));
             }
         }
         None

@@ -1,9 +1,10 @@
-//! What the comparisons use: checked calls of the library, lent parts between guard bytes, choices of faults, and the
-//! report.
+//! What the comparisons use: checked calls of the library, lent parts between guard bytes, random machines, choices of
+//! faults, and the report.
 #![deny(unsafe_code)]
 
 pub mod calls;
 pub mod choice;
 pub mod ffi_snapshot;
 pub mod lent;
+pub mod machines;
 pub mod report;

@@ -23,6 +23,8 @@ pub struct Checker {
     pub reads: [u64; NUMBERS],
     pub writes: [u64; NUMBERS],
     pub longest: usize,
+    /// The length of the file that the last accepted read was written to.
+    pub last_length: usize,
 }
 
 impl Checker {
@@ -37,6 +39,7 @@ impl Checker {
             reads: [0; NUMBERS],
             writes: [0; NUMBERS],
             longest: 0,
+            last_length: 0,
         }
     }
 
@@ -86,10 +89,16 @@ impl Checker {
     fn round_trip(&mut self, machine: &[u8], memory: &[u8]) -> Outcome {
         let mut file = self.write_call(machine, memory, LONGEST_FILE)?.1;
         let outcome = self.read_call(&file, 0, memory, machine);
-        self.longest = self.longest.max(file.len());
+        self.last_length = file.len();
+        self.longest = self.longest.max(self.last_length);
         file.clear();
         self.file = file;
         outcome.map_err(|what| format!("read again: {what}"))
+    }
+
+    /// The header and the memory of the last accepted read.
+    pub fn last_read(&self) -> (Vec<u8>, Vec<u8>) {
+        (self.header.part().to_vec(), self.area.part().to_vec())
     }
 
     /// Writes into an output of `room` bytes, and answers the number.

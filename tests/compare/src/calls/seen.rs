@@ -4,7 +4,7 @@ use crate::report::Outcome;
 use reference::journal::{Call, Correction};
 
 /// One more than the highest number.
-const NUMBERS: usize = 33;
+pub const NUMBERS: usize = 33;
 
 #[derive(Clone, Copy, PartialEq, Eq)]
 pub enum Function {

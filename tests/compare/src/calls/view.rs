@@ -4,15 +4,20 @@ use super::seen::{Function, Seen};
 use super::{answer, outcome};
 use crate::ffi_snapshot::{self as ffi, Viewed};
 use crate::lent::Lent;
-use crate::report::Outcome;
 use reference::journal::{view, View};
 use std::hint::black_box;
 
 /// What lies beside and in the three numbers before a call.
 const DIRTY: (u8, u64) = (0xA5, 0xA5A5_5A5A_A5A5_5A5A);
 
-/// One view, its three numbers between cells that must stay.
-pub fn call(seen: &mut Seen, header: &Lent, rom: &Lent, area: &Lent, page: u8) -> Outcome {
+/// One view, its three numbers between cells that must stay; its answer.
+pub fn call(
+    seen: &mut Seen,
+    header: &Lent,
+    rom: &Lent,
+    area: &Lent,
+    page: u8,
+) -> Result<u32, String> {
     let (rom_length, area_length) = (rom.part().len(), area.part().len());
     let (number, expected) = view(header.part(), rom_length, area_length, page);
     let (mut small, mut cells) = ([DIRTY.0; 3], [DIRTY.1; 5]);
@@ -39,5 +44,6 @@ pub fn call(seen: &mut Seen, header: &Lent, rom: &Lent, area: &Lent, page: u8) -
         wrong.push("a cell beside the three numbers was changed".into());
     }
     let lengths = format!("ROM of {rom_length} bytes, area of {area_length}");
-    outcome(wrong).map_err(|what| format!("page {page}, {lengths}: {what}"))
+    let tell = |what| format!("page {page}, {lengths}: {what}");
+    outcome(wrong).map(|()| number).map_err(tell)
 }

@@ -1,7 +1,7 @@
 //! Invented logs: a good step where the next undo or redo looks, anything elsewhere.
 
-use super::lists::header;
 use compare::calls::journal::Checker;
+use compare::machines::header;
 use reference::journal::{capacity, owns, Call, Correction, Step, LOCK, PAIRS, STEP};
 use reference::machine::Model;
 use reference::memory::{Rng, MEMORY, PAGE};

@@ -1,8 +1,8 @@
 //! Groups with headers that our writer makes or does not make.
 
 use super::forge::{self, MODELS, MOVES};
-use super::lists::header;
 use compare::calls::journal::Checker;
+use compare::machines::header;
 use compare::report::{Group, Outcome};
 use reference::journal::Call;
 use reference::machine::HEADER;

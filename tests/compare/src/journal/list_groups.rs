@@ -1,10 +1,11 @@
 //! Lists of calls against the model, which never sees a log byte.
 
-use super::lists::{machine, Lister};
+use super::lists::Lister;
 use compare::calls::journal::Checker;
 use compare::calls::library::Library;
 use compare::calls::seen::Function;
 use compare::calls::{answer, note, outcome};
+use compare::machines::machine;
 use compare::report::{hex, Group, Outcome};
 use reference::journal::{capacity, page_at, Call, Correction, Replay, Step, PAIRS, STEP};
 use reference::machine::{header, Model};

@@ -1,9 +1,9 @@
 //! Groups with several faults at once, where the first number of the order is given, and invented numbers.
 
 use super::forge::{self, MODELS, MOVES};
-use super::lists::header;
 use compare::calls::journal::Checker;
 use compare::choice::Choice;
+use compare::machines::header;
 use compare::report::{Group, Outcome};
 use reference::journal::{capacity, Call, Correction, Step, LOCK};
 use reference::machine::{Model, HEADER};

@@ -1,9 +1,9 @@
 //! Groups that view a page.
 
-use super::lists::header;
 use compare::calls::journal::Checker;
 use compare::calls::{note, outcome, view};
 use compare::lent::Lent;
+use compare::machines::header;
 use compare::report::{Group, Outcome};
 use reference::machine::{Model, HEADER};
 use reference::memory::{Rng, MEMORY, PAGE};

@@ -11,7 +11,7 @@ pub struct Contents {
 }
 
 /// What a correction gives a value to.
-#[derive(Debug, Clone, Copy, PartialEq, Eq, Hash)]
+#[derive(Debug, Clone, Copy, PartialEq, Eq, PartialOrd, Ord)]
 pub enum Place {
     /// A byte of the memory, counted over all pages.
     Byte(usize),

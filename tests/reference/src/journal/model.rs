@@ -6,7 +6,7 @@ use super::contents::{asked, Place};
 use super::{capacity, Call, Contents, Correction, LOCK, PAIRS};
 use crate::machine::{Machine, Model};
 use crate::refusal::{number, Refusal};
-use std::collections::HashMap;
+use std::collections::BTreeMap;
 
 pub struct Replay {
     start: Contents,
@@ -16,7 +16,7 @@ pub struct Replay {
     undone: Vec<Correction>,
     now: Contents,
     /// What the applied corrections of each place asked for, first to last.
-    values: HashMap<Place, Vec<u16>>,
+    values: BTreeMap<Place, Vec<u16>>,
 }
 
 impl Replay {
@@ -29,7 +29,7 @@ impl Replay {
             capacity: capacity(log_length),
             applied: Vec::new(),
             undone: Vec::new(),
-            values: HashMap::new(),
+            values: BTreeMap::new(),
         }
     }
 

@@ -1,0 +1,29 @@
+//! Which calls gave which numbers in which cases, for libFuzzer, which takes each cell for a branch of the program.
+
+use compare::calls::seen::{Function, NUMBERS};
+use std::sync::atomic::{AtomicU8, Ordering};
+
+/// The rows of cells: reading, writing, and the functions of the log.
+pub const READ: usize = 0;
+pub const WRITE: usize = 1;
+const ROWS: usize = 9;
+
+pub fn row(function: Function) -> usize {
+    2 + function as usize
+}
+
+/// How many cases of one number are told apart.
+const CASES: usize = 8;
+
+const CELLS: usize = ROWS * NUMBERS * CASES;
+
+#[allow(unsafe_code)]
+#[used]
+#[link_section = "__libfuzzer_extra_counters"]
+static REACHED: [AtomicU8; CELLS] = [const { AtomicU8::new(0) }; CELLS];
+
+/// Marks a number that a call gave, and which case of it this was.
+pub fn mark(row: usize, number: u32, case: u8) {
+    let cell = (row * NUMBERS + number as usize) * CASES + usize::from(case) % CASES;
+    REACHED[cell].store(1, Ordering::Relaxed);
+}
