@@ -1,0 +1,59 @@
+/* Files that are read once into a clean area, and again and again into dirty slots. */
+#include "soak.h"
+#include <stdio.h>
+#include <stdlib.h>
+#include <string.h>
+
+#define MOST 1000
+
+static struct stored {
+    uint8_t *file;
+    size_t length;
+    uint32_t number;
+    uint8_t header[SNAP_HEADER_SIZE];
+    uint8_t *area;
+} files[MOST];
+static size_t count;
+
+static void fail(const char *what, const char *name)
+{
+    printf("FAIL %s: %s\n", name, what);
+    exit(1);
+}
+
+static uint32_t read_into(const struct stored *stored, uint8_t *area, uint8_t *header)
+{
+    return snap_z80_read(stored->file, stored->length, area, SNAP_AREA_SIZE, header, SNAP_HEADER_SIZE);
+}
+
+/* A .z80 file, or an input of the fuzz target: a file after its first two bytes. */
+void store(const char *name)
+{
+    static uint8_t bytes[1 << 20];
+    if (count == MOST)
+        fail("too many files", name);
+    FILE *from = fopen(name, "rb");
+    if (from == NULL)
+        fail("cannot be opened", name);
+    size_t length = fread(bytes, 1, sizeof bytes, from);
+    fclose(from);
+    size_t skipped = strstr(name, ".z80") == NULL && length >= 2 ? 2 : 0;
+    struct stored *stored = &files[count++];
+    stored->length = length - skipped;
+    stored->file = malloc(length + 1);
+    stored->area = calloc(1, SNAP_AREA_SIZE);
+    if (stored->file == NULL || stored->area == NULL)
+        fail("no memory", name);
+    memcpy(stored->file, bytes + skipped, stored->length);
+    stored->number = read_into(stored, stored->area, stored->header);
+}
+
+void stored_request(struct slot *slot, uint64_t *seed)
+{
+    const struct stored *stored = &files[next(seed) % count];
+    expect("read", read_into(stored, slot->area, slot->header), stored->number);
+    if (stored->number != 0)
+        expect_refused(slot);
+    expect_bytes("area", slot->area, stored->area, SNAP_AREA_SIZE);
+    expect_bytes("header", slot->header, stored->header, SNAP_HEADER_SIZE);
+}
