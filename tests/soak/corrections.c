@@ -2,11 +2,10 @@
 #include "soak.h"
 #include <string.h>
 
-#define PAIRS 12u
 #define LOCK 0x20
 
 /* The header bytes of the low and the high half of each register pair. */
-static const uint8_t pair_bytes[PAIRS][2] = {{1, 0},   {2, 3},   {13, 14}, {4, 5},   {22, 21}, {15, 16},
+static const uint8_t pair_bytes[SNAP_PAIRS][2] = {{1, 0},   {2, 3},   {13, 14}, {4, 5},   {22, 21}, {15, 16},
                                              {17, 18}, {19, 20}, {25, 26}, {23, 24}, {8, 9},   {32, 33}};
 
 static unsigned page_at(const uint8_t *header, uint16_t address)
@@ -20,7 +19,7 @@ static uint32_t number_of(const struct correction *asked, const uint8_t *header,
 {
     if (asked->kind == BYTE && asked->place < 0x4000)
         return 23;
-    if (asked->kind == PAIR && asked->place >= PAIRS)
+    if (asked->kind == PAIR && asked->place >= SNAP_PAIRS)
         return 32;
     if (asked->kind == OUT && !is_128(header))
         return 24;
@@ -32,7 +31,7 @@ static uint32_t number_of(const struct correction *asked, const uint8_t *header,
 /* The byte of the area that a step is about. */
 static unsigned byte_of(const uint8_t *step)
 {
-    return step[3] * PAGE + step[5] * 256u + step[4];
+    return step[3] * SNAP_PAGE_SIZE + step[5] * 256u + step[4];
 }
 
 static void put(struct made *made, const uint8_t *step, const uint8_t *value)
@@ -85,7 +84,7 @@ struct correction ask(const struct made *made, int is_full, uint64_t *seed)
     struct correction asked = {.kind = (enum correction_kind)(BYTE + word % 3), .place = (uint16_t)(word >> 16)};
     asked.value = (uint16_t)(word >> 32);
     if (asked.kind == PAIR)
-        asked.place %= PAIRS + 1;
+        asked.place %= SNAP_PAIRS + 1;
     else
         asked.value %= 256;
     asked.number = number_of(&asked, made->header, is_full);

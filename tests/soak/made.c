@@ -49,9 +49,9 @@ static void make_page(uint8_t *page, uint64_t *seed)
 {
     static const uint8_t longest[4] = {1, 6, 40, 255};
     unsigned most = longest[next(seed) % 4];
-    for (unsigned at = 0; at < PAGE;) {
+    for (unsigned at = 0; at < SNAP_PAGE_SIZE;) {
         uint64_t word = next(seed);
-        for (unsigned left = 1 + (unsigned)(word >> 32) % most; left > 0 && at < PAGE; left--)
+        for (unsigned left = 1 + (unsigned)(word >> 32) % most; left > 0 && at < SNAP_PAGE_SIZE; left--)
             page[at++] = (uint8_t)word;
     }
 }
@@ -67,11 +67,11 @@ void make(struct made *made, uint64_t *seed)
 {
     make_header(made->header, seed);
     for (unsigned page = 0; page < 8; page++) {
-        uint8_t *part = made->area + page * PAGE;
+        uint8_t *part = made->area + page * SNAP_PAGE_SIZE;
         if (owns(made->header, page))
             make_page(part, seed);
         else
-            memset(part, 0, PAGE);
+            memset(part, 0, SNAP_PAGE_SIZE);
     }
     make_file(made);
 }

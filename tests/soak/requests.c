@@ -66,16 +66,16 @@ static void short_write_request(struct slot *slot, uint64_t *seed)
 /* A view of a page, and all that is seen through it. */
 static void view_page(const struct slot *slot, uint8_t page, uint32_t due)
 {
-    static const uint8_t rom[2 * PAGE];
+    static const uint8_t rom[2 * SNAP_PAGE_SIZE];
     uint8_t in_rom = 7;
     uint64_t start = 7, length = 7;
-    size_t rom_length = is_128(slot->header) ? 2 * PAGE : PAGE;
+    size_t rom_length = is_128(slot->header) ? 2 * SNAP_PAGE_SIZE : SNAP_PAGE_SIZE;
     uint32_t number = snap_view(slot->header, sizeof slot->header, rom, rom_length, slot->area, sizeof slot->area, page,
                                 &in_rom, &start, &length);
     expect("view", number, due);
     expect("in_rom", in_rom, due == 0 && page >= 8);
-    expect("the start", start, due == 0 ? page % 8 * PAGE : 0);
-    expect("the length", length, due == 0 ? PAGE : 0);
+    expect("the start", start, due == 0 ? page % 8 * SNAP_PAGE_SIZE : 0);
+    expect("the length", length, due == 0 ? SNAP_PAGE_SIZE : 0);
     if (in_rom == 0)
         expect_bytes("the page", slot->area + start, made.area + start, length);
 }

@@ -4,7 +4,6 @@
 
 #include "snapshot.h"
 
-#define PAGE 16384u
 #define LOG_SIZE 100u
 #define LOG_STEPS (LOG_SIZE / SNAP_LOG_STEP)
 /* The header byte of the last OUT to 7FFD. */
