@@ -30,7 +30,7 @@ target/snapshot: $(TOOL_PARTS) tools/tool.h include/snapshot.h $(LIB)
 	$(CC) $(ALL_CFLAGS) $(TOOL_PARTS) $(LIB) -lpng -lz -ledit -o $@
 
 install: tool
-	sed -e 's|@PREFIX@|$(PREFIX)|' -e 's|@VERSION@|$(VERSION)|' include/snapshot.pc.in > target/snapshot.pc
+	sed -e 's|@PREFIX@|$(abspath $(PREFIX))|' -e 's|@VERSION@|$(VERSION)|' include/snapshot.pc.in > target/snapshot.pc
 	install -D -m 644 $(LIB) $(DESTDIR)$(PREFIX)/lib/libsnapshot.a
 	install -D -m 644 include/snapshot.h $(DESTDIR)$(PREFIX)/include/snapshot.h
 	install -D -m 644 target/snapshot.pc $(DESTDIR)$(PREFIX)/lib/pkgconfig/snapshot.pc

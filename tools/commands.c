@@ -99,36 +99,30 @@ static enum status do_out(const struct line *line)
     return corrected(line, snap_correct_out(LENT(line->session), (uint8_t)value));
 }
 
-static bool take_count(const struct line *line, unsigned long *count)
+/* Undo or redo, as many times as the line says. */
+static enum status move(const struct line *line, bool back)
 {
-    *count = 1;
-    return line->count == 1 || (line->count == 2 && take_decimal(line->words[1], SNAP_LOG_STEPS, count));
+    struct session *session = line->session;
+    unsigned long count = 1;
+    if (line->count > 2 || (line->count == 2 && !take_decimal(line->words[1], SNAP_LOG_STEPS, &count)))
+        return wrong(line, "undo or redo, alone or with how many, as in: undo 2");
+    enum status status = ACCEPTED;
+    for (; count > 0 && status == ACCEPTED; count--) {
+        uint32_t number = back ? snap_undo(LENT(session)) : snap_redo(LENT(session));
+        /* what was undone is now the first to wait, what was redone the last to stand */
+        status = told(line, number, back ? "undone: " : "redone: ", session->log.standing - !back, back);
+    }
+    return status;
 }
 
 static enum status do_undo(const struct line *line)
 {
-    unsigned long count;
-    if (!take_count(line, &count))
-        return wrong(line, "undo, or undo COUNT");
-    enum status status = ACCEPTED;
-    for (; count > 0 && status == ACCEPTED; count--) {
-        uint32_t number = snap_undo(LENT(line->session));
-        status = told(line, number, "undone: ", line->session->log.standing, true);
-    }
-    return status;
+    return move(line, true);
 }
 
 static enum status do_redo(const struct line *line)
 {
-    unsigned long count;
-    if (!take_count(line, &count))
-        return wrong(line, "redo, or redo COUNT");
-    enum status status = ACCEPTED;
-    for (; count > 0 && status == ACCEPTED; count--) {
-        uint32_t number = snap_redo(LENT(line->session));
-        status = told(line, number, "redone: ", line->session->log.standing - 1, false);
-    }
-    return status;
+    return move(line, false);
 }
 
 static enum status do_list(const struct line *line)
