@@ -105,7 +105,9 @@ static enum status replace(const char *path, const uint8_t *bytes, size_t length
     int to = mkstemp(temporary);
     if (to < 0)
         return cannot_errno(path, "cannot be written");
-    bool there = write_all(to, bytes, length) && fchmod(to, mode) == 0 && fsync(to) == 0;
+    /* where permissions cannot be set, as on a FAT disk, they stay as they are made */
+    fchmod(to, mode);
+    bool there = write_all(to, bytes, length) && fsync(to) == 0;
     int why = errno;
     if (close(to) != 0 && there) {
         there = false;

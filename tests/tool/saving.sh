@@ -34,7 +34,7 @@ every_fault() {
 full_disk() {
     target/snapshot write tests/files/48k-text.z80 -o "$work/whole.z80"
     every_fault full 3
-    with_fault full 2 write tests/files/48k-text.z80 -o "$work/whole.z80"
+    with_fault full 3 write tests/files/48k-text.z80 -o "$work/whole.z80"
     grep -qF "No space left on device" "$work/err"
 }
 killed() { every_fault kill 137; }
