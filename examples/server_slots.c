@@ -16,8 +16,9 @@ static struct request {
     const char *file;
     uint8_t page;
 } requests[] = {
-    {"samples/museum-128k.z80", 0}, {"samples/museum-128k.z80", 1}, {"samples/museum-128k.z80", 3}, {"samples/museum-128k.z80", 4},
-    {"samples/museum-48k.z80", 2},  {"samples/museum-48k.z80", 1},  {"samples/picture.txt", 5},     {"samples/museum-128k.z80", 6},
+    {"samples/museum-128k.z80", 0}, {"samples/museum-128k.z80", 1}, {"samples/museum-128k.z80", 3},
+    {"samples/museum-128k.z80", 4}, {"samples/museum-48k.z80", 2},  {"samples/museum-48k.z80", 1},
+    {"samples/picture.txt", 5},     {"samples/museum-128k.z80", 6},
 };
 
 static size_t load(const char *name, uint8_t *bytes, size_t room)
@@ -67,7 +68,8 @@ int main(void)
         if (number == SNAP_ACCEPTED)
             printf("%u bytes, from %02X %02X %02X %02X on\n", (unsigned)length, page[0], page[1], page[2], page[3]);
         else
-            printf("refused, %u: %s; bytes left in its place: %u\n", (unsigned)number, snap_sentence(number), left_over(slot, requests[k].page));
+            printf("refused, %u: %s; bytes left in its place: %u\n", (unsigned)number, snap_sentence(number),
+                   left_over(slot, requests[k].page));
     }
     return 0;
 }

@@ -163,6 +163,7 @@ enum status save_snapshot(const char *path, const struct opened *opened)
 {
     static uint8_t file[SNAP_FILE_MOST];
     uint64_t length;
-    uint32_t number = snap_z80_write(opened->header, sizeof opened->header, opened->area, sizeof opened->area, file, sizeof file, &length);
+    uint32_t number = snap_z80_write(opened->header, sizeof opened->header, opened->area, sizeof opened->area, file,
+                                     sizeof file, &length);
     return number == SNAP_ACCEPTED ? save_bytes(path, file, (size_t)length) : refused(path, number);
 }

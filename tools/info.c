@@ -24,7 +24,8 @@ static void print_registers(FILE *to, const struct machine *m)
         fprintf(to, "%-3s %04X%s", pair_names[pair], m->pairs[pair], pair % 4 == 3 ? "\n" : "   ");
     }
     fprintf(to, "           I   %02X     R   %02X\n", m->i, m->r);
-    fprintf(to, "Interrupts mode %u, %s (IFF1 %d, IFF2 %d)\n", m->interrupt_mode, m->iff1 ? "enabled" : "disabled", m->iff1, m->iff2);
+    fprintf(to, "Interrupts mode %u, %s (IFF1 %d, IFF2 %d)\n", m->interrupt_mode, m->iff1 ? "enabled" : "disabled",
+            m->iff1, m->iff2);
 }
 
 static void print_ports(FILE *to, const struct machine *m)
@@ -33,7 +34,8 @@ static void print_ports(FILE *to, const struct machine *m)
     if (!m->is_128k)
         return;
     uint8_t out = m->out_7ffd;
-    fprintf(to, "Paging     last OUT to 7FFD %02X: page %u at C000, screen in page %u, ROM %u, %s\n", out, out % 8u, out & 8 ? 7 : 5, out >> 4 & 1u, out & 32 ? "locked" : "not locked");
+    fprintf(to, "Paging     last OUT to 7FFD %02X: page %u at C000, screen in page %u, ROM %u, %s\n", out, out % 8u,
+            out & 8 ? 7 : 5, out >> 4 & 1u, out & 32 ? "locked" : "not locked");
     fprintf(to, "Sound      last OUT to FFFD %02X; registers", m->out_fffd);
     print_hex(to, m->sound, sizeof m->sound);
 }
@@ -41,7 +43,8 @@ static void print_ports(FILE *to, const struct machine *m)
 static void print_settings(FILE *to, const struct machine *m)
 {
     fprintf(to, "Clock      T state %u of %u in the frame\n", (unsigned)m->position, (unsigned)m->frame);
-    fprintf(to, "Settings   issue %d keyboard, %s video, joystick %s%s\n", m->issue_2 ? 2 : 3, m->video, joystick_names[m->joystick], m->double_interrupts ? ", double interrupts" : "");
+    fprintf(to, "Settings   issue %d keyboard, %s video, joystick %s%s\n", m->issue_2 ? 2 : 3, m->video,
+            joystick_names[m->joystick], m->double_interrupts ? ", double interrupts" : "");
     fprintf(to, "Emulation  byte 36 %02X, byte 37 %02X; bytes 59, 61 to 85", m->byte_36, m->byte_37);
     print_hex(to, m->side, sizeof m->side);
 }

@@ -11,7 +11,9 @@ static unsigned utf8_length(const unsigned char *s)
         return 0;
     more = least < 0xE0 ? 1 : least < 0xF0 ? 2 : 3;
     /* no overlong forms, no surrogates, nothing above 10FFFF */
-    if ((least == 0xE0 && s[1] < 0xA0) || (least == 0xED && s[1] > 0x9F) || (least == 0xF0 && s[1] < 0x90) || (least == 0xF4 && s[1] > 0x8F))
+    if ((least == 0xE0 && s[1] < 0xA0) || (least == 0xED && s[1] > 0x9F))
+        return 0;
+    if ((least == 0xF0 && s[1] < 0x90) || (least == 0xF4 && s[1] > 0x8F))
         return 0;
     for (unsigned at = 1; at <= more; at++)
         if ((s[at] & 0xC0) != 0x80)
@@ -66,7 +68,8 @@ static void print_json_ports(FILE *to, const struct machine *m)
 static void print_json_settings(FILE *to, const struct machine *m)
 {
     fprintf(to, "  \"clock\": {\"position\": %u, \"frame\": %u},\n", (unsigned)m->position, (unsigned)m->frame);
-    fprintf(to, "  \"settings\": {\"issue_2\": %s, \"double_interrupts\": %s, \"video\": \"%s\", \"joystick\": \"%s\"},\n", boolean(m->issue_2), boolean(m->double_interrupts), m->video, joystick_names[m->joystick]);
+    fprintf(to, "  \"settings\": {\"issue_2\": %s, \"double_interrupts\": %s, \"video\": \"%s\", \"joystick\": \"%s\"},\n",
+            boolean(m->issue_2), boolean(m->double_interrupts), m->video, joystick_names[m->joystick]);
     fprintf(to, "  \"emulation\": {\"byte_36\": %u, \"byte_37\": %u, \"bytes_59_61_85\": ", m->byte_36, m->byte_37);
     print_numbers(to, m->side, sizeof m->side);
     fputs("},\n", to);
@@ -96,11 +99,13 @@ void print_json(FILE *to, const char *file, const struct opened *opened)
     struct machine m = machine_of(opened->header);
     fputs("{\n  \"file\": ", to);
     print_string(to, file);
-    fprintf(to, ",\n  \"machine\": \"%s\",\n  \"attachment\": \"%s\",\n  \"registers\": {", m.is_128k ? "128K" : "48K", m.attachment);
+    fprintf(to, ",\n  \"machine\": \"%s\",\n  \"attachment\": \"%s\",\n", m.is_128k ? "128K" : "48K", m.attachment);
+    fputs("  \"registers\": {", to);
     for (unsigned pair = 0; pair < SNAP_PAIRS; pair++)
         fprintf(to, "\"%s\": %u, ", pair_names[pair], m.pairs[pair]);
     fprintf(to, "\"I\": %u, \"R\": %u},\n", m.i, m.r);
-    fprintf(to, "  \"interrupts\": {\"mode\": %u, \"iff1\": %s, \"iff2\": %s},\n", m.interrupt_mode, boolean(m.iff1), boolean(m.iff2));
+    fprintf(to, "  \"interrupts\": {\"mode\": %u, \"iff1\": %s, \"iff2\": %s},\n", m.interrupt_mode, boolean(m.iff1),
+            boolean(m.iff2));
     print_json_ports(to, &m);
     print_json_settings(to, &m);
     print_json_pages(to, &m, opened);

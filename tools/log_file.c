@@ -41,7 +41,8 @@ static bool is_log(const uint8_t *file, size_t length)
 static bool is_whole(const uint8_t *file, size_t length)
 {
     uint32_t standing = take_u32(file + 8), total = take_u32(file + 12);
-    return standing <= total && total <= SNAP_LOG_STEPS && length == HEAD + total * SNAP_LOG_STEP && take_u32(file + 20) == log_sum(file, length);
+    return standing <= total && total <= SNAP_LOG_STEPS && length == HEAD + total * SNAP_LOG_STEP
+        && take_u32(file + 20) == log_sum(file, length);
 }
 
 static bool exists(const char *path)

@@ -103,7 +103,8 @@ static enum status take_options(const struct command *command, int argc, char **
         }
     }
     if (argc - optind != command->names)
-        return misused("'snapshot %s' takes %d name%s; see 'snapshot --help'", command->name, command->names, command->names == 1 ? "" : "s");
+        return misused("'snapshot %s' takes %d name%s; see 'snapshot --help'", command->name, command->names,
+                       command->names == 1 ? "" : "s");
     if (strchr(command->options, 'o') != NULL && words->output == NULL)
         return misused("'snapshot %s' needs -o OUT", command->name);
     for (int at = 0; at < command->names; at++)

@@ -46,7 +46,8 @@ enum status print_page(FILE *to, const char *file, const struct opened *opened, 
     }
     uint8_t in_rom, number = (uint8_t)(page < 255 ? page : 255);
     uint64_t start, length;
-    uint32_t answer = snap_view(opened->header, sizeof opened->header, rom, rom_length, opened->area, sizeof opened->area, number, &in_rom, &start, &length);
+    uint32_t answer = snap_view(opened->header, sizeof opened->header, rom, rom_length, opened->area,
+                                sizeof opened->area, number, &in_rom, &start, &length);
     if (answer != SNAP_ACCEPTED)
         return refused(answer == SNAP_ROM_LENGTH && rom_file != NULL ? rom_file : file, answer);
     if (in_rom && rom_file == NULL)
