@@ -1,5 +1,8 @@
+pub mod Written
+pub mod RunLength
+pub mod RunBlocks
+pub mod Frame
 pub mod UnpackSteps
-pub mod Until
-pub mod Runs
-pub mod Blocks
+pub mod Codes
 pub mod PackSteps
+pub mod Stops

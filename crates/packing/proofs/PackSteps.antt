@@ -12,15 +12,16 @@ use borrow.Author.Tests.{le-leb, lt-leb}
 use Rattle.slices.specs.Choose.{choose}
 use Rattle.slices.proofs.Fills.{cleared-whole}
 use Rattle.packing.specs.Packed.{bytes, front, unpacked, packed}
-use Rattle.packing.specs.Packed.Steps.{run-code, single-code, plain-code, short-code, packed-nil}
+use Rattle.packing.specs.Packed.Steps.{run-code, single-code, short-code, packed-nil}
 use Rattle.packing.specs.Packed.Promise.{unpacked-packed, packed-short}
-use Rattle.packing.specs.Packing.{Packs}
-use Rattle.packing.specs.Inner.{runAt, RunLeft, Put, Copied, PackedInto}
+use Rattle.packing.specs.Packing.{Packs, fits}
+use Rattle.packing.specs.Inner.{runAt, RunLeft, Put, packedAs, PackedInto}
+use Rattle.packing.proofs.Frame.{Frame, onward}
 use Rattle.packing.specs.declared.Fit.{Fit}
 use Rattle.packing.specs.declared.Fit.the-variants.{Length, TooShort}
 
 -- what is at i packs to ws, and packing goes on at j
-pub record Next (s : List ℕ) (i : ℕ) (ws : List ℕ) (j : ℕ) : Type 0 where
+pub record Coded (s : List ℕ) (i : ℕ) (ws : List ℕ) (j : ℕ) : Type 0 where
   pub step : packed (drop i s) ≡ ws ++ packed (drop j s)
   pub inside : j ≤ length s
 
@@ -28,7 +29,7 @@ module _ (s : List ℕ) (i : ℕ) (h : i < length s) where
   split : drop i s ≡ getD s i 0 ∷ drop (i + 1) s
   split = drop-cons s i 0 h ∙ ap (λ (k : ℕ). getD s i 0 ∷ drop k s) (sym (add-one i))
 
-  next-at : (ws : List ℕ) (k j : ℕ) → packed (getD s i 0 ∷ drop (i + 1) s) ≡ ws ++ packed (drop k (drop (i + 1) s)) → i + 1 + k ≡ j → j ≤ length s → Next s i ws j
+  next-at : (ws : List ℕ) (k j : ℕ) → packed (getD s i 0 ∷ drop (i + 1) s) ≡ ws ++ packed (drop k (drop (i + 1) s)) → i + 1 + k ≡ j → j ≤ length s → Coded s i ws j
   next-at ws k j e m l =
       record {
         step = ap packed split ∙ e ∙ ap (λ (z : List ℕ). ws ++ packed z) (drop-drop k (i + 1) s ∙ ap (λ (m : ℕ). drop m s) m);
@@ -36,19 +37,19 @@ module _ (s : List ℕ) (i : ℕ) (h : i < length s) where
       }
 
   module _ (r : ℕ) (g : RunLeft s i r) where
-    long-run : (getD s i 0 ≡ 237 → 2 ≤ runAt s i) → ((getD s i 0 ≡ 237 → ⊥) → 5 ≤ runAt s i) → Next s i (237 ∷ 237 ∷ r ∷ getD s i 0 ∷ []) (i + r)
+    long-run : (getD s i 0 ≡ 237 → 2 ≤ runAt s i) → ((getD s i 0 ≡ 237 → ⊥) → 5 ≤ runAt s i) → Coded s i (237 ∷ 237 ∷ r ∷ getD s i 0 ∷ []) (i + r)
     long-run h k =
         rw (g .counted)
         (next-at _ (min (runAt s i) 255 - 1) (i + min (runAt s i) 255) (run-code (getD s i 0) (drop (i + 1) s) (runAt s i) refl h k) (omega arith)
         (omega (arith, g .counted, g .inside)))
 
-    next-run-ed : getD s i 0 ≡ 237 → 2 ≤ r → Next s i (237 ∷ 237 ∷ r ∷ getD s i 0 ∷ []) (i + r)
+    next-run-ed : getD s i 0 ≡ 237 → 2 ≤ r → Coded s i (237 ∷ 237 ∷ r ∷ getD s i 0 ∷ []) (i + r)
     next-run-ed e k = long-run (λ _. omega (arith, g .counted)) (λ f. absurd (f e))
 
-    next-run : (getD s i 0 ≡ 237 → ⊥) → 5 ≤ r → Next s i (237 ∷ 237 ∷ r ∷ getD s i 0 ∷ []) (i + r)
+    next-run : (getD s i 0 ≡ 237 → ⊥) → 5 ≤ r → Coded s i (237 ∷ 237 ∷ r ∷ getD s i 0 ∷ []) (i + r)
     next-run e k = long-run (λ f. absurd (e f)) (λ _. omega (arith, g .counted))
 
-    next-short : (getD s i 0 ≡ 237 → ⊥) → r < 5 → Next s i (replicate r (getD s i 0)) (i + r)
+    next-short : (getD s i 0 ≡ 237 → ⊥) → r < 5 → Coded s i (replicate r (getD s i 0)) (i + r)
     next-short e k =
         let q : r ≡ runAt s i = omega (arith, g .counted) in
         let m : i + 1 + front (getD s i 0) (drop (i + 1) s) ≡ i + r = omega arith in
@@ -61,13 +62,13 @@ module _ (s : List ℕ) (i : ℕ) (h : i < length s) where
           inside = g .inside;
         }
 
-    next-single : getD s i 0 ≡ 237 → r < 2 → i + 1 < length s → Next s i (getD s i 0 ∷ getD s (i + 1) 0 ∷ []) (i + 2)
+    next-single : getD s i 0 ≡ 237 → r < 2 → i + 1 < length s → Coded s i (getD s i 0 ∷ getD s (i + 1) 0 ∷ []) (i + 2)
     next-single e k l =
-        subst (λ (ws : List ℕ). Next s i ws (i + 2))
+        subst (λ (ws : List ℕ). Coded s i ws (i + 2))
         (ap (λ (z : List ℕ). 237 ∷ take 1 z) (drop-cons s (i + 1) 0 l) ∙ ap (λ (x : ℕ). x ∷ getD s (i + 1) 0 ∷ []) (sym e))
         (next-at _ 1 (i + 2) (single-code (getD s i 0) (drop (i + 1) s) e (omega (arith, g .counted))) (omega arith) (omega arith))
 
-    next-last : getD s i 0 ≡ 237 → r < 2 → length s ≤ i + 1 → Next s i (getD s i 0 ∷ []) (i + 1)
+    next-last : getD s i 0 ≡ 237 → r < 2 → length s ≤ i + 1 → Coded s i (getD s i 0 ∷ []) (i + 1)
     next-last e k l =
         let z : drop (i + 1) s ≡ [] = drop-of-length-le s {i = i + 1} l in
         record {
@@ -78,112 +79,81 @@ module _ (s : List ℕ) (i : ℕ) (h : i < length s) where
           inside = omega arith;
         }
 
-  next-unlike : (getD s i 0 ≡ 237 → ⊥) → runAt s i ≡ 1 → Next s i (getD s i 0 ∷ []) (i + 1)
-  next-unlike e k =
-      record { step = ap packed split ∙ plain-code (getD s i 0) (drop (i + 1) s) e (omega arith); inside = omega arith }
-
--- the loop: i bytes of s are packed, into d up to o
-pub record Packing (s d₀ d : List ℕ) (i o : ℕ) : Type 0 where
-  pub reach : i ≤ length s
-  pub room : o ≤ length d
-  pub long : length d ≡ length d₀
-  pub same : packed s ≡ take o d ++ packed (drop i s)
-
-pub packing-none : (s d : List ℕ) → Packing s d d 0 0
-packing-none s d = record { reach = omega arith; room = omega arith; long = refl; same = refl }
-
 never-length : (n : ℕ) → TooShort ≡ Length n → ⊥
 never-length n e = let z : _≡_ {A = ℕ} 0 1 = cc in omega arith
 
-module _ (s d₀ d : List ℕ) (i o : ℕ) (g : Packing s d₀ d i o) where
-  again : (ws d′ : List ℕ) (j o′ : ℕ) → Next s i ws j → Put d o ws d′ → o + length ws ≡ o′ → o′ ≤ length d → Packing s d₀ d′ j o′
-  again ws d′ j o′ n p e h =
+module _ (ps s d₀ d : List ℕ) (i o : ℕ) (g : Frame packedAs (bytes ps) s d₀ d i o) where
+  again : (ws d′ : List ℕ) (j o′ : ℕ) → Coded s i ws j → Put d o ws d′ → o + length ws ≡ o′ → o′ ≤ length d → Frame packedAs (bytes ps) s d₀ d′ j o′
+  again ws d′ j o′ n = onward packedAs (bytes ps) s d₀ d i o g d′ ws j o′ (record { step = ap bytes (n .step); inside = n .inside })
+
+  whole : ps ≡ take o d ++ packed (drop i s)
+  whole = let e : bytes ps ≡ bytes (take o d ++ packed (drop i s)) = g .same in cc
+
+  -- the rest is another's
+  pub rest-packed : (a : Fit) (d′ : List ℕ) → PackedInto (take o d ++ packed (drop i s)) d a d′ → PackedInto ps d₀ a d′
+  rest-packed a d′ h =
       record {
-        reach = n .inside;
-        room = omega (arith, p .long);
-        long = p .long ∙ g .long;
-        same =
-            g .same ∙ ap (λ (l : List ℕ). take o d ++ l) (n .step) ∙ sym (append-assoc (take o d) ws (packed (drop j s)))
-            ∙ ap (λ (l : List ℕ). l ++ packed (drop j s)) (sym (p .wrote) ∙ ap (λ (m : ℕ). take m d′) e);
+        answer = h .answer ∙ (λ j. fits (sym whole j) (g .long j));
+        there = λ n q. (let w = h .there n q in (w .0, w .1 ∙ sym whole));
       }
 
-  again-copied : (d′ : List ℕ) (k : ℕ) → Copied s i d o k d′ → Packing s d₀ d′ (i + k) (o + k)
-  again-copied d′ k p =
-      again (take k (drop i s)) d′ (i + k) (o + k) (record { step = p .step; inside = p .within }) (p .stored)
-      (ap (λ (n : ℕ). o + n) (length-take-le k (drop i s) (simp length-drop (omega (arith, p .within)))))
-      (omega (arith, p .room, p .stored .long))
-
-  short : (ws : List ℕ) (j : ℕ) → Next s i ws j → length d < o + length ws → PackedInto s d₀ TooShort d
+  short : (ws : List ℕ) (j : ℕ) → Coded s i ws j → length d < o + length ws → PackedInto ps d₀ TooShort d
   short ws j n h =
       let l : length (take o d) ≡ o = length-take-le o d (g .room) in
-      let e : length (packed s) ≡ length (take o d) + (length ws + length (packed (drop j s))) =
-      ap length (g .same ∙ ap (λ (l : List ℕ). take o d ++ l) (n .step))
+      let e : length ps ≡ length (take o d) + (length ws + length (packed (drop j s))) =
+      ap length (whole ∙ ap (λ (l : List ℕ). take o d ++ l) (n .step))
       ∙ length-append (take o d) (ws ++ packed (drop j s))
       ∙ ap (λ (m : ℕ). length (take o d) + m) (length-append ws (packed (drop j s))) in
       record {
-        answer = simp (lt-leb (length (packed s)) (length d₀) (omega (arith, g .long)));
+        answer = simp (lt-leb (length ps) (length d₀) (omega (arith, g .long)));
         there = λ n q. absurd (never-length n q);
       }
 
-  pub packed-all : length s ≤ i → PackedInto s d₀ (Length o) d
+  pub packed-all : length s ≤ i → PackedInto ps d₀ (Length o) d
   packed-all h =
-      let e : packed s ≡ take o d =
-      g .same ∙ ap (λ (l : List ℕ). take o d ++ packed l) (drop-of-length-le s {i = i} h) ∙ ap (λ (l : List ℕ). take o d ++ l) packed-nil ∙ append-nil (take o d) in
-      let l : length (packed s) ≡ o = ap length e ∙ length-take-le o d (g .room) in
+      let e : ps ≡ take o d =
+      whole ∙ ap (λ (l : List ℕ). take o d ++ packed l) (drop-of-length-le s {i = i} h) ∙ ap (λ (l : List ℕ). take o d ++ l) packed-nil ∙ append-nil (take o d) in
+      let l : length ps ≡ o = ap length e ∙ length-take-le o d (g .room) in
       record {
         answer = rw (l, le-leb o (length d₀) (omega (arith, g .long, g .room)));
         there = λ n q. (let z : o ≡ n = cc in (omega (arith, g .room), ap (λ (m : ℕ). take m d) (sym z) ∙ sym e));
       }
 
   module _ (d′ : List ℕ) (h : i < length s) where
-    again-unlike : Put d o (getD s i 0 ∷ []) d′ → (getD s i 0 ≡ 237 → ⊥) → runAt s i ≡ 1 → o < length d → Packing s d₀ d′ (i + 1) (o + 1)
-    again-unlike p e k r = again _ d′ (i + 1) (o + 1) (next-unlike s i h e k) p refl (omega arith)
-
     module _ (r : ℕ) (l : RunLeft s i r) where
-      pub again-run-ed : Put d o (237 ∷ 237 ∷ r ∷ getD s i 0 ∷ []) d′ → getD s i 0 ≡ 237 → 2 ≤ r → o + 4 ≤ length d → Packing s d₀ d′ (i + r) (o + 4)
+      pub again-run-ed : Put d o (237 ∷ 237 ∷ r ∷ getD s i 0 ∷ []) d′ → getD s i 0 ≡ 237 → 2 ≤ r → o + 4 ≤ length d → Frame packedAs (bytes ps) s d₀ d′ (i + r) (o + 4)
       again-run-ed p e k m = again _ d′ (i + r) (o + 4) (next-run-ed s i h r l e k) p refl m
 
-      pub again-run : Put d o (237 ∷ 237 ∷ r ∷ getD s i 0 ∷ []) d′ → (getD s i 0 ≡ 237 → ⊥) → 5 ≤ r → o + 4 ≤ length d → Packing s d₀ d′ (i + r) (o + 4)
+      pub again-run : Put d o (237 ∷ 237 ∷ r ∷ getD s i 0 ∷ []) d′ → (getD s i 0 ≡ 237 → ⊥) → 5 ≤ r → o + 4 ≤ length d → Frame packedAs (bytes ps) s d₀ d′ (i + r) (o + 4)
       again-run p e k m = again _ d′ (i + r) (o + 4) (next-run s i h r l e k) p refl m
 
-      pub again-single : Put d o (getD s i 0 ∷ getD s (i + 1) 0 ∷ []) d′ → getD s i 0 ≡ 237 → r < 2 → i + 1 < length s → o + 2 ≤ length d → Packing s d₀ d′ (i + 2) (o + 2)
+      pub again-single : Put d o (getD s i 0 ∷ getD s (i + 1) 0 ∷ []) d′ → getD s i 0 ≡ 237 → r < 2 → i + 1 < length s → o + 2 ≤ length d → Frame packedAs (bytes ps) s d₀ d′ (i + 2) (o + 2)
       again-single p e k j m = again _ d′ (i + 2) (o + 2) (next-single s i h r l e k j) p refl m
 
-      pub again-last : Put d o (getD s i 0 ∷ []) d′ → getD s i 0 ≡ 237 → r < 2 → length s ≤ i + 1 → o < length d → Packing s d₀ d′ (i + 1) (o + 1)
+      pub again-last : Put d o (getD s i 0 ∷ []) d′ → getD s i 0 ≡ 237 → r < 2 → length s ≤ i + 1 → o < length d → Frame packedAs (bytes ps) s d₀ d′ (i + 1) (o + 1)
       again-last p e k j m = again _ d′ (i + 1) (o + 1) (next-last s i h r l e k j) p refl (omega arith)
 
-      pub again-short : Put d o (replicate r (getD s i 0)) d′ → (getD s i 0 ≡ 237 → ⊥) → r < 5 → o + r ≤ length d → Packing s d₀ d′ (i + r) (o + r)
+      pub again-short : Put d o (replicate r (getD s i 0)) d′ → (getD s i 0 ≡ 237 → ⊥) → r < 5 → o + r ≤ length d → Frame packedAs (bytes ps) s d₀ d′ (i + r) (o + r)
       again-short p e k m = again _ d′ (i + r) (o + r) (next-short s i h r l e k) p (ap (λ (n : ℕ). o + n) (length-replicate r (getD s i 0))) m
 
   module _ (h : i < length s) where
-    pub short-unlike : (getD s i 0 ≡ 237 → ⊥) → runAt s i ≡ 1 → length d ≤ o → PackedInto s d₀ TooShort d
-    short-unlike e k r = short _ (i + 1) (next-unlike s i h e k) (omega arith)
-
     module _ (r : ℕ) (l : RunLeft s i r) where
-      pub short-run-ed : getD s i 0 ≡ 237 → 2 ≤ r → length d < o + 4 → PackedInto s d₀ TooShort d
+      pub short-run-ed : getD s i 0 ≡ 237 → 2 ≤ r → length d < o + 4 → PackedInto ps d₀ TooShort d
       short-run-ed e k m = short _ (i + r) (next-run-ed s i h r l e k) m
 
-      pub short-run : (getD s i 0 ≡ 237 → ⊥) → 5 ≤ r → length d < o + 4 → PackedInto s d₀ TooShort d
+      pub short-run : (getD s i 0 ≡ 237 → ⊥) → 5 ≤ r → length d < o + 4 → PackedInto ps d₀ TooShort d
       short-run e k m = short _ (i + r) (next-run s i h r l e k) m
 
-      pub short-single : getD s i 0 ≡ 237 → r < 2 → i + 1 < length s → length d < o + 2 → PackedInto s d₀ TooShort d
+      pub short-single : getD s i 0 ≡ 237 → r < 2 → i + 1 < length s → length d < o + 2 → PackedInto ps d₀ TooShort d
       short-single e k j m = short _ (i + 2) (next-single s i h r l e k j) m
 
-      pub short-last : getD s i 0 ≡ 237 → r < 2 → length s ≤ i + 1 → length d ≤ o → PackedInto s d₀ TooShort d
+      pub short-last : getD s i 0 ≡ 237 → r < 2 → length s ≤ i + 1 → length d ≤ o → PackedInto ps d₀ TooShort d
       short-last e k j m = short _ (i + 1) (next-last s i h r l e k j) (omega arith)
 
-      pub short-short : (getD s i 0 ≡ 237 → ⊥) → r < 5 → length d < o + r → PackedInto s d₀ TooShort d
+      pub short-short : (getD s i 0 ≡ 237 → ⊥) → r < 5 → length d < o + r → PackedInto ps d₀ TooShort d
       short-short e k m = short _ (i + r) (next-short s i h r l e k) (omega (arith, length-replicate r (getD s i 0)))
 
--- a plain byte, and those after it
-pub again-plain : (s d₀ d d′ d″ : List ℕ) (i o k : ℕ) → Packing s d₀ d i o → Put d o (getD s i 0 ∷ []) d′ → Copied s (i + 1) d′ (o + 1) k d″
-    → i < length s → (getD s i 0 ≡ 237 → ⊥) → runAt s i ≡ 1 → o < length d → Packing s d₀ d″ (i + (1 + k)) (o + (1 + k))
-again-plain s d₀ d d′ d″ i o k g p q h e u r =
-    let a : i + 1 + k ≡ i + (1 + k) = omega arith in
-    let b : o + 1 + k ≡ o + (1 + k) = omega arith in
-    rw (sym a, sym b) (again-copied s d₀ d′ (i + 1) (o + 1) (again-unlike s d₀ d i o g d′ h p e u r) d″ k q)
-
-module _ (s d₀ : List ℕ) (r : Fit) (d : List ℕ) (g : PackedInto s d₀ r d) (same : length d ≡ length d₀) where
+module _ (s d₀ : List ℕ) (r : Fit) (d : List ℕ) (g : PackedInto (packed s) d₀ r d) (same : length d ≡ length d₀) where
   pub packs-long : (n : ℕ) (l : List ℕ) → r ≡ Length n → l ≡ take n d ++ replicate (length d - n) 0 → Packs (packed s) (length d₀) (Length n) l
   packs-long n l e q =
       let w = g .there n e in
@@ -235,8 +205,8 @@ measured-all s i o g h =
     omega (arith, g .same)
 
 module _ (s : List ℕ) (i o : ℕ) (g : Measured s i o) where
-  onward : (ws : List ℕ) (j k : ℕ) → Next s i ws j → length ws ≡ k → Measured s j (o + k)
-  onward ws j k n e =
+  measured : (ws : List ℕ) (j k : ℕ) → Coded s i ws j → length ws ≡ k → Measured s j (o + k)
+  measured ws j k n e =
       record {
         reach = n .inside;
         same = let l : length (packed (drop i s)) ≡ length ws + length (packed (drop j s)) = ap length (n .step) ∙ length-append ws (packed (drop j s)) in omega (arith, g .same);
@@ -244,16 +214,16 @@ module _ (s : List ℕ) (i o : ℕ) (g : Measured s i o) where
 
   module _ (h : i < length s) (r : ℕ) (l : RunLeft s i r) where
     pub measured-run-ed : getD s i 0 ≡ 237 → 2 ≤ r → Measured s (i + r) (o + 4)
-    measured-run-ed e k = onward _ (i + r) 4 (next-run-ed s i h r l e k) refl
+    measured-run-ed e k = measured _ (i + r) 4 (next-run-ed s i h r l e k) refl
 
     pub measured-single : getD s i 0 ≡ 237 → r < 2 → i + 1 < length s → Measured s (i + 2) (o + 2)
-    measured-single e k m = onward _ (i + 2) 2 (next-single s i h r l e k m) refl
+    measured-single e k m = measured _ (i + 2) 2 (next-single s i h r l e k m) refl
 
     pub measured-last : getD s i 0 ≡ 237 → r < 2 → length s ≤ i + 1 → Measured s (i + 1) (o + 1)
-    measured-last e k m = onward _ (i + 1) 1 (next-last s i h r l e k m) refl
+    measured-last e k m = measured _ (i + 1) 1 (next-last s i h r l e k m) refl
 
     pub measured-run : (getD s i 0 ≡ 237 → ⊥) → 5 ≤ r → Measured s (i + r) (o + 4)
-    measured-run e k = onward _ (i + r) 4 (next-run s i h r l e k) refl
+    measured-run e k = measured _ (i + r) 4 (next-run s i h r l e k) refl
 
     pub measured-short : (getD s i 0 ≡ 237 → ⊥) → r < 5 → Measured s (i + r) (o + r)
-    measured-short e k = onward _ (i + r) r (next-short s i h r l e k) (length-replicate r (getD s i 0))
+    measured-short e k = measured _ (i + r) r (next-short s i h r l e k) (length-replicate r (getD s i 0))

@@ -14,7 +14,8 @@ use Rattle.slices.proofs.Fills.{cleared-whole}
 use Rattle.packing.specs.Packed.{Found, malformed, bytes, before, pair, run, unpacked}
 use Rattle.packing.specs.Packed.Steps.{front-plain, front-cut, front-run, unpacked-nil}
 use Rattle.packing.specs.Unpacking.{answerOf, leftBy, Unpacks}
-use Rattle.packing.specs.Inner.{over, Into, Put}
+use Rattle.packing.specs.Inner.{over, Into, Put, pairAt}
+use Rattle.packing.proofs.Frame.{Frame, onward}
 use Rattle.packing.specs.declared.Unpacked.{Unpacked}
 use Rattle.packing.specs.declared.Unpacked.the-variants.{Good, WrongLength, Malformed}
 
@@ -25,31 +26,31 @@ pair-first a b h = simp (eq-eqb a 237 h)
 pub pair-none : (a b : ℕ) → (a ≡ 237 → ⊥) → false ≡ pair a b
 pair-none a b h = simp (ne-eqb a 237 h)
 
-pub pair-end : (s : List ℕ) (i : ℕ) → length s ≤ i + 1 → false ≡ pair (getD s i 0) (getD s (i + 1) 0)
+pub pair-end : (s : List ℕ) (i : ℕ) → length s ≤ i + 1 → false ≡ pairAt s i
 pair-end s i h = rw (List·getD-eq-default s 0 {n = i + 1} h) (go (eqb (getD s i 0) 237))
   where
     go : (t : Bool) → false ≡ both t false
     go true = refl
     go false = refl
 
-module _ (s : List ℕ) (i : ℕ) (r : Bool) (e : r ≡ pair (getD s i 0) (getD s (i + 1) 0)) where
-  there : pair (getD (drop i s) 0 0) (getD (drop i s) 1 0) ≡ r
-  there = rw (getD-drop i s 0 0, getD-drop i s 1 0, add-zero i) (sym e)
+module _ (s : List ℕ) (i : ℕ) (r : Bool) (e : r ≡ pairAt s i) where
+  pub pair-there : pair (getD (drop i s) 0 0) (getD (drop i s) 1 0) ≡ r
+  pair-there = rw (getD-drop i s 0 0, getD-drop i s 1 0, add-zero i) (sym e)
 
   pub step-plain : i < length s → r ≡ false → unpacked (drop i s) ≡ before (getD s i 0 ∷ []) (unpacked (drop (i + 1) s))
   step-plain h f =
       let l : 0 < length (drop i s) = simp length-drop (omega arith) in
-      rw (getD-drop i s 0 0, drop-drop 1 i s, add-zero i) at (front-plain (drop i s) l (there ∙ f))
+      rw (getD-drop i s 0 0, drop-drop 1 i s, add-zero i) at (front-plain (drop i s) l (pair-there ∙ f))
 
   pub step-cut : length s < i + 4 → r ≡ true → unpacked (drop i s) ≡ malformed
   step-cut h t =
       let l : length (drop i s) < 4 = simp length-drop (omega arith) in
-      front-cut (drop i s) l (there ∙ t)
+      front-cut (drop i s) l (pair-there ∙ t)
 
   pub step-run : i + 4 ≤ length s → r ≡ true → unpacked (drop i s) ≡ run (getD s (i + 2) 0) (getD s (i + 3) 0) (unpacked (drop (i + 4) s))
   step-run h t =
       let l : 4 ≤ length (drop i s) = simp length-drop (omega arith) in
-      rw (getD-drop i s 2 0, getD-drop i s 3 0, drop-drop 4 i s) at (front-run (drop i s) l (there ∙ t))
+      rw (getD-drop i s 2 0, getD-drop i s 3 0, drop-drop 4 i s) at (front-run (drop i s) l (pair-there ∙ t))
 
 pub step-end : (s : List ℕ) (i : ℕ) → length s ≤ i → unpacked (drop i s) ≡ bytes []
 step-end s i h = ap unpacked (drop-of-length-le s {i = i} h) ∙ unpacked-nil
@@ -66,7 +67,7 @@ pub record Resting (s : List ℕ) (from i : ℕ) : Type 0 where
 pub resting-none : (s : List ℕ) (from : ℕ) → from ≤ length s → Resting s from from
 resting-none s from h = record { reach = h; same = refl }
 
-module _ (s : List ℕ) (from i : ℕ) (r : Bool) (g : Resting s from i) (e : r ≡ pair (getD s i 0) (getD s (i + 1) 0)) where
+module _ (s : List ℕ) (from i : ℕ) (r : Bool) (g : Resting s from i) (e : r ≡ pairAt s i) where
   pub resting-plain : i < length s → r ≡ false → Resting s from (i + 1)
   resting-plain h f =
       record {
@@ -92,24 +93,6 @@ module _ (s : List ℕ) (from i : ℕ) (r : Bool) (g : Resting s from i) (e : r 
 pub resting-end : (s : List ℕ) (from i : ℕ) → Resting s from i → length s ≤ i → WrongLength ≡ over (unpacked (drop from s))
 resting-end s from i g h = sym (g .same ∙ ap over (step-end s i h))
 
-pub before-nil : (u : Found) → before [] u ≡ u
-before-nil malformed = refl
-before-nil (bytes ys) = refl
-
-pub before-before : (xs ys : List ℕ) (u : Found) → before xs (before ys u) ≡ before (xs ++ ys) u
-before-before xs ys malformed = refl
-before-before xs ys (bytes zs) = ap bytes (sym (append-assoc xs ys zs))
-
--- the loop: i bytes of s are read, and what they stand for is in d up to o
-pub record Going (s d₀ d : List ℕ) (i o : ℕ) : Type 0 where
-  pub reach : i ≤ length s
-  pub room : o ≤ length d
-  pub long : length d ≡ length d₀
-  pub same : unpacked s ≡ before (take o d) (unpacked (drop i s))
-
-pub going-none : (s d : List ℕ) → Going s d d 0 0
-going-none s d = record { reach = omega arith; room = omega arith; long = refl; same = sym (before-nil (unpacked s)) }
-
 not-good : (r : Unpacked) → r ≡ Malformed → r ≡ Good → ⊥
 not-good r p q = let z : _≡_ {A = ℕ} 0 1 = cc in omega arith
 
@@ -123,10 +106,10 @@ full xs ys (bytes zs) n h =
     let l : length (xs ++ (ys ++ zs)) ≡ length xs + (length ys + length zs) = length-append xs (ys ++ zs) ∙ ap (λ (m : ℕ). length xs + m) (length-append ys zs) in
     simp (ne-eqb (length (xs ++ (ys ++ zs))) n (λ e. omega arith))
 
-module _ (s d₀ d : List ℕ) (i o : ℕ) (g : Going s d₀ d i o) where
+module _ (u : Found) (s d₀ d : List ℕ) (i o : ℕ) (g : Frame unpacked u s d₀ d i o) where
   -- the output is full, and what is at i stands for ys and more
   over-into : (r : Unpacked) (ys : List ℕ) (w : Found) → r ≡ over (unpacked (drop i s)) → unpacked (drop i s) ≡ before ys w → length d < o + length ys
-      → Into (unpacked s) d₀ r d
+      → Into u d₀ r d
   over-into r ys w er eu h =
       let l : length (take o d) ≡ o = length-take-le o d (g .room) in
       record {
@@ -136,29 +119,22 @@ module _ (s d₀ d : List ℕ) (i o : ℕ) (g : Going s d₀ d i o) where
         found = λ q. absurd (over-not-good (unpacked (drop i s)) (sym er ∙ q));
       }
 
-  bad-into : unpacked (drop i s) ≡ malformed → Into (unpacked s) d₀ Malformed d
+  bad-into : unpacked (drop i s) ≡ malformed → Into u d₀ Malformed d
   bad-into e =
       record {
         answer = ap (λ (u : Found). answerOf u (length d₀)) (sym (g .same ∙ ap (before (take o d)) e));
         found = λ q. absurd (not-good Malformed refl q);
       }
 
-  module _ (r : Bool) (e : r ≡ pair (getD s i 0) (getD s (i + 1) 0)) where
-    pub going-plain : (d′ : List ℕ) → Put d o (getD s i 0 ∷ []) d′ → i < length s → r ≡ false → o < length d → Going s d₀ d′ (i + 1) (o + 1)
+  module _ (r : Bool) (e : r ≡ pairAt s i) where
+    pub going-plain : (d′ : List ℕ) → Put d o (getD s i 0 ∷ []) d′ → i < length s → r ≡ false → o < length d → Frame unpacked u s d₀ d′ (i + 1) (o + 1)
     going-plain d′ p h f k =
-        record {
-          reach = omega arith;
-          room = omega (arith, p .long);
-          long = p .long ∙ g .long;
-          same =
-              g .same ∙ ap (before (take o d)) (step-plain s i r e h f) ∙ before-before (take o d) (getD s i 0 ∷ []) (unpacked (drop (i + 1) s))
-              ∙ ap (λ (z : List ℕ). before z (unpacked (drop (i + 1) s))) (sym (p .wrote));
-        }
+        onward unpacked u s d₀ d i o g d′ (getD s i 0 ∷ []) (i + 1) (o + 1) (record { step = step-plain s i r e h f; inside = omega arith }) p refl (omega arith)
 
-    pub full-plain : (a : Unpacked) → i < length s → r ≡ false → length d ≤ o → a ≡ over (unpacked (drop i s)) → Into (unpacked s) d₀ a d
+    pub full-plain : (a : Unpacked) → i < length s → r ≡ false → length d ≤ o → a ≡ over (unpacked (drop i s)) → Into u d₀ a d
     full-plain a h f k p = over-into a (getD s i 0 ∷ []) (unpacked (drop (i + 1) s)) p (step-plain s i r e h f) (omega arith)
 
-    pub cut-into : length s < i + 4 → r ≡ true → Into (unpacked s) d₀ Malformed d
+    pub cut-into : length s < i + 4 → r ≡ true → Into u d₀ Malformed d
     cut-into h t = bad-into (step-cut s i r e h t)
 
     module _ (n : ℕ) (h : i + 4 ≤ length s) (t : r ≡ true) (en : n ≡ getD s (i + 2) 0) where
@@ -166,30 +142,31 @@ module _ (s d₀ d : List ℕ) (i o : ℕ) (g : Going s d₀ d i o) where
       stands z =
           step-run s i r e h t ∙ ap (λ (m : ℕ). run m (getD s (i + 3) 0) (unpacked (drop (i + 4) s))) (sym en) ∙ rw (ne-eqb n 0 z)
 
-      pub zero-into : n ≡ 0 → Into (unpacked s) d₀ Malformed d
+      pub zero-into : n ≡ 0 → Into u d₀ Malformed d
       zero-into z = bad-into (step-run s i r e h t ∙ rw (eq-eqb (getD s (i + 2) 0) 0 (sym en ∙ z)))
 
-      pub full-run : (a : Unpacked) → (n ≡ 0 → ⊥) → length d < o + n → a ≡ over (unpacked (drop i s)) → Into (unpacked s) d₀ a d
+      pub full-run : (a : Unpacked) → (n ≡ 0 → ⊥) → length d < o + n → a ≡ over (unpacked (drop i s)) → Into u d₀ a d
       full-run a z k p =
           over-into a (replicate n (getD s (i + 3) 0)) (unpacked (drop (i + 4) s)) p (stands z) (omega (arith, length-replicate n (getD s (i + 3) 0)))
 
-      pub going-run : (d′ : List ℕ) → Put d o (replicate n (getD s (i + 3) 0)) d′ → (n ≡ 0 → ⊥) → o + n ≤ length d → Going s d₀ d′ (i + 4) (o + n)
+      pub going-run : (d′ : List ℕ) → Put d o (replicate n (getD s (i + 3) 0)) d′ → (n ≡ 0 → ⊥) → o + n ≤ length d → Frame unpacked u s d₀ d′ (i + 4) (o + n)
       going-run d′ p z k =
-          record {
-            reach = h;
-            room = omega (arith, p .long);
-            long = p .long ∙ g .long;
-            same =
-                g .same ∙ ap (before (take o d)) (stands z) ∙ before-before (take o d) (replicate n (getD s (i + 3) 0)) (unpacked (drop (i + 4) s))
-                ∙ ap (λ (z : List ℕ). before z (unpacked (drop (i + 4) s)))
-                (sym (p .wrote) ∙ ap (λ (m : ℕ). take (o + m) d′) (length-replicate n (getD s (i + 3) 0)));
-          }
+          onward unpacked u s d₀ d i o g d′ (replicate n (getD s (i + 3) 0)) (i + 4) (o + n) (record { step = stands z; inside = h }) p
+          (ap (λ (m : ℕ). o + m) (length-replicate n (getD s (i + 3) 0))) k
+
+  -- the rest is another's
+  pub rest-into : (a : Unpacked) (d′ : List ℕ) → Into (before (take o d) (unpacked (drop i s))) d a d′ → Into u d₀ a d′
+  rest-into a d′ h =
+      record {
+        answer = h .answer ∙ (λ j. answerOf (sym (g .same) j) (g .long j));
+        found = λ q. (λ j. leftBy (g .same j) (sym (g .long) j)) ∙ h .found q;
+      }
 
   -- all is read
-  whole : length s ≤ i → unpacked s ≡ bytes (take o d)
+  whole : length s ≤ i → u ≡ bytes (take o d)
   whole h = g .same ∙ ap (before (take o d)) (step-end s i h) ∙ ap bytes (append-nil (take o d))
 
-  pub good-into : length s ≤ i → o ≡ length d → Into (unpacked s) d₀ Good d
+  pub good-into : length s ≤ i → o ≡ length d → Into u d₀ Good d
   good-into h e =
       let l : length (take o d) ≡ o = length-take-le o d (g .room) in
       let q : eqb (length (take o d)) (length d₀) ≡ true = eq-eqb (length (take o d)) (length d₀) (omega (arith, g .long)) in
@@ -198,7 +175,7 @@ module _ (s d₀ d : List ℕ) (i o : ℕ) (g : Going s d₀ d i o) where
         found = λ _. rw (whole h, q) (take-all o d (omega arith));
       }
 
-  pub wrong-into : length s ≤ i → (o ≡ length d → ⊥) → Into (unpacked s) d₀ WrongLength d
+  pub wrong-into : length s ≤ i → (o ≡ length d → ⊥) → Into u d₀ WrongLength d
   wrong-into h e =
       let l : length (take o d) ≡ o = length-take-le o d (g .room) in
       let q : eqb (length (take o d)) (length d₀) ≡ false = ne-eqb (length (take o d)) (length d₀) (λ z. e (omega (arith, g .long))) in

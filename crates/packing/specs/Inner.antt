@@ -1,15 +1,24 @@
 -- The contracts of the private functions: what one step of a loop leaves.
-use Prim.Native.Nat.{ℕ, suc, _+_, _≤_, _<_, min}
+use Prim.Native.Nat.{ℕ, suc, _+_, _-_, _≤_, _<_, min}
 use mathlib.Core.Path.{_≡_}
+use mathlib.Core.Bool.{Bool, true, false, not, _||_, _&&_}
 use mathlib.Core.List.{List, _++_}
+use lib.Dec.{eqb}
+use lib.Count.{trailingZeros}
 use lib.ListN.{length, take, drop, getD}
-use Rattle.packing.specs.Packed.{Found, malformed, bytes, packed, front, ED}
+use Rattle.flags.specs.Places.{Seen, Ahead}
+use Rattle.packing.specs.Packed.{Found, malformed, bytes, before, pair, unpacked, packed, front, ED}
 use Rattle.packing.specs.Unpacking.{answerOf, leftBy}
 use Rattle.packing.specs.Packing.{fits}
 use Rattle.packing.specs.declared.Unpacked.{Unpacked}
 use Rattle.packing.specs.declared.Unpacked.the-variants.{Good, WrongLength, Malformed}
 use Rattle.packing.specs.declared.Fit.{Fit}
 use Rattle.packing.specs.declared.Fit.the-variants.{Length}
+
+-- ws was written over d₀ from o on; what stands after it is free
+pub record Put (d₀ : List ℕ) (o : ℕ) (ws d : List ℕ) : Type 0 where
+  pub long : length d ≡ length d₀
+  pub wrote : take (o + length ws) d ≡ take o d₀ ++ ws
 
 -- the answer where the part is full and data are left
 abbrev pub over : Found → Unpacked
@@ -21,25 +30,26 @@ pub record Into (u : Found) (d₀ : List ℕ) (r : Unpacked) (d : List ℕ) : Ty
   pub answer : r ≡ answerOf u (length d₀)
   pub found : r ≡ Good → leftBy u (length d₀) ≡ d
 
--- k bytes of s, none of them ED, stand at the front of d, which was d₀
-pub record Until (s d₀ d : List ℕ) (k : ℕ) : Type 0 where
-  pub within : k ≤ length s
-  pub long : length d ≡ length d₀
-  pub moved : take k d ≡ take k s
-  pub plain : (j : ℕ) → j < k → getD s j 0 ≡ ED → ⊥
+-- whether ED ED stands at p
+abbrev pub pairAt : List ℕ → ℕ → Bool
+pairAt s p = pair (getD s p 0) (getD s (p + 1) 0)
 
--- k bytes of s from i on, none of them ED, stand in d from o on; before o it is as in d₀
-pub record Moved (s : List ℕ) (i : ℕ) (d₀ : List ℕ) (o k : ℕ) (d : List ℕ) : Type 0 where
-  pub within : i + k ≤ length s
-  pub room : o + k ≤ length d
-  pub long : length d ≡ length d₀
-  pub moved : take (o + k) d ≡ take o d₀ ++ take k (drop i s)
-  pub plain : (j : ℕ) → j < k → getD s (i + j) 0 ≡ ED → ⊥
+-- m flags ED ED in 16 bytes of s from i on, which were written over d₀ from o on
+pub record Copied16 (s : List ℕ) (i : ℕ) (d₀ : List ℕ) (o m : ℕ) (d : List ℕ) : Type 0 where
+  pub seen : Seen (pairAt s) i 16 m
+  pub stored : Put d₀ o (take 16 (drop i s)) d
 
--- the same, of at most m bytes
-pub record MovedUpTo (m : ℕ) (s : List ℕ) (i : ℕ) (d₀ : List ℕ) (o k : ℕ) (d : List ℕ) : Type 0 where
-  pub few : k ≤ m
-  pub part : Moved s i d₀ o k d
+-- under f the first k bytes of s from i on stand for themselves, and were written over d₀ from o on
+pub record Copied (f : List ℕ → Found) (s : List ℕ) (i : ℕ) (d₀ : List ℕ) (o k : ℕ) (d : List ℕ) : Type 0 where
+  pub inside : i + k ≤ length s
+  pub step : f (drop i s) ≡ before (take k (drop i s)) (f (drop (i + k) s))
+  pub stored : Put d₀ o (take k (drop i s)) d
+
+-- m flags ED ED from i on: the bytes before the first one are copied, or 64 where it flags none
+pub record Looked (s : List ℕ) (i : ℕ) (d₀ : List ℕ) (o m : ℕ) (d : List ℕ) : Type 0 where
+  pub ahead : Ahead (pairAt s) i m
+  pub part : Copied unpacked s i d₀ o (trailingZeros 64 m) d
+  pub code : trailingZeros 64 m < 64 → true ≡ pairAt s (i + trailingZeros 64 m)
 
 -- what is left of the run at i
 abbrev pub runAt : List ℕ → ℕ → ℕ
@@ -50,29 +60,25 @@ pub record RunLeft (s : List ℕ) (i r : ℕ) : Type 0 where
   pub counted : r ≡ min (runAt s i) 255
   pub inside : i + r ≤ length s
 
--- ws was written over d₀ from o on; what stands after it is free
-pub record Put (d₀ : List ℕ) (o : ℕ) (ws d : List ℕ) : Type 0 where
-  pub long : length d ≡ length d₀
-  pub wrote : take (o + length ws) d ≡ take o d₀ ++ ws
+-- whether the byte at p is unlike the next
+abbrev pub unlikeAt : List ℕ → ℕ → Bool
+unlikeAt s p = not (eqb (getD s p 0) (getD s (p + 1) 0))
 
--- x packs to itself, y being the next byte and z the fourth after it: it is not ED, and its run has at most four bytes
-pub record Plain (x y z : ℕ) : Type 0 where
-  pub other : x ≡ ED → ⊥
-  pub ends : x ≡ y → x ≡ z → ⊥
+-- whether a code may begin at x, y being the next byte and z the fourth after it
+abbrev pub mayCode : ℕ → ℕ → ℕ → Bool
+mayCode x y z = eqb x ED || (eqb x y && eqb z y)
 
--- the first k bytes of a block do; the other blocks are those one and four bytes on
-pub record PlainUpTo (block next fourth : List ℕ) (k : ℕ) : Type 0 where
-  pub most : k ≤ 16
-  pub plain : (j : ℕ) → j < k → Plain (getD block j 0) (getD next j 0) (getD fourth j 0)
+-- the packed form, as something found
+abbrev pub packedAs : List ℕ → Found
+packedAs xs = bytes (packed xs)
 
--- k bytes of s from i on, which pack to themselves, were written over d₀ from o on
-pub record Copied (s : List ℕ) (i : ℕ) (d₀ : List ℕ) (o k : ℕ) (d : List ℕ) : Type 0 where
-  pub within : i + k ≤ length s
-  pub room : o + k ≤ length d
-  pub step : packed (drop i s) ≡ take k (drop i s) ++ packed (drop (i + k) s)
-  pub stored : Put d₀ o (take k (drop i s)) d
+-- k bytes of s from i on are copied, all 16 or up to where a code may begin; u flags, from there on, bytes unlike the next
+pub record Stopped (s : List ℕ) (i : ℕ) (d₀ : List ℕ) (o k u : ℕ) (d : List ℕ) : Type 0 where
+  pub few : k ≤ 16
+  pub part : Copied packedAs s i d₀ o k d
+  pub unlike : Ahead (unlikeAt s) (i + k) u
 
 -- the answer r, and the part d, which was d₀: settled where it fits
-pub record PackedInto (s d₀ : List ℕ) (r : Fit) (d : List ℕ) : Type 0 where
-  pub answer : r ≡ fits (packed s) (length d₀)
-  pub there : (n : ℕ) → r ≡ Length n → (n ≤ length d) × (take n d ≡ packed s)
+pub record PackedInto (ws d₀ : List ℕ) (r : Fit) (d : List ℕ) : Type 0 where
+  pub answer : r ≡ fits ws (length d₀)
+  pub there : (n : ℕ) → r ≡ Length n → (n ≤ length d) × (take n d ≡ ws)

@@ -1,0 +1,34 @@
+use Prim.Native.Nat.{_-_}
+use borrow.Author.Needs.{needs}
+use Rattle.flags.proofs.Weights.{Looked, looked-none, looked-more, looked-all}
+use Rattle.flags.proofs.any16.Statement.{statement}
+use Rattle.flags.proofs.any16.Tie as tie
+
+abbrev Inv-loop : tie.InvT-loop
+Inv-loop c any₀ k₀ any k = Looked c any k
+
+abbrev μ-loop : tie.MeasureT-loop
+μ-loop c any₀ k₀ any k = 16 - k
+
+loop-holds : tie.Need-loop-holds Inv-loop μ-loop
+loop-holds c = search looked-none
+
+array-read-any : tie.Need-array-read-any Inv-loop μ-loop
+array-read-any c = search needs
+
+add-k : tie.Need-add-k Inv-loop μ-loop
+add-k c = search needs
+
+loop-less : tie.Need-loop-less Inv-loop μ-loop
+loop-less c = search needs
+
+loop-again : tie.Need-loop-again Inv-loop μ-loop
+loop-again c = search looked-more
+
+returns : tie.Need-returns Inv-loop μ-loop
+returns c = looked-all _ _ _ (search (needs, c .before .before .good .0)) (c .before .loop .inv) (search needs)
+
+pub any16-spec : {M : Type 1} → statement M
+any16-spec =
+    tie.close
+    (tie.spec Inv-loop μ-loop loop-holds array-read-any add-k loop-less loop-again returns)

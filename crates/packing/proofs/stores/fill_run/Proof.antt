@@ -1,0 +1,30 @@
+use Rattle.packing.proofs.Written.{put-part}
+use borrow.Author.Needs.{needs}
+use Rattle.packing.proofs.stores.fill_run.Statement.{statement}
+use Rattle.packing.proofs.stores.fill_run.Tie as tie
+
+add-e : tie.Need-add-e
+add-e c = search needs
+
+sub-fill : tie.Need-sub-fill
+sub-fill c = search needs
+
+part-fill-start : tie.Need-part-fill-start
+part-fill-start c = search needs
+
+part-fill-end : tie.Need-part-fill-end
+part-fill-end c = search needs
+
+fill-requires : tie.Need-fill-requires
+fill-requires c κs = search needs
+
+same-length : tie.Need-same-length
+same-length c = search needs
+
+returns : tie.Need-returns
+returns c = search put-part
+
+pub fill-run-spec : {M : Type 1} → statement M
+fill-run-spec =
+    tie.close
+    (tie.spec add-e sub-fill part-fill-start part-fill-end fill-requires same-length returns)
