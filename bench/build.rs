@@ -1,5 +1,5 @@
 //! Tells the linker where the archives under test are: STATICLIB_DIR, or
-//! target/staticlib of the repository. Each binary names its own archive.
+//! target/staticlib of the repository. Each binary names its own archives.
 //! Compiles the calls of libspectrum where it is installed.
 
 use std::path::Path;

@@ -4,25 +4,39 @@ use reference::memory::Rng;
 use std::time::{Duration, Instant};
 
 /// Measurements of every contender.
-const ROUNDS: usize = 20;
+pub const ROUNDS: usize = 20;
 
 /// The shortest measurement.
 const LEAST: Duration = Duration::from_millis(1);
 
 pub type Contender<'a> = Box<dyn FnMut() + 'a>;
 
-/// The median nanoseconds of one call of each contender.
-pub fn medians(contenders: &mut [Contender], rng: &mut Rng) -> Vec<f64> {
-    medians_of(ROUNDS, LEAST, contenders, rng)
+/// The nanoseconds of one call of each contender, round by round.
+pub struct Times(Vec<Vec<f64>>);
+
+impl Times {
+    pub fn median(&self, which: usize) -> f64 {
+        median(self.0[which].clone())
+    }
+
+    /// The median of a contender's time over another's in the same round: what slows a round slows both.
+    pub fn ratio(&self, which: usize, to: usize) -> f64 {
+        let rounds = self.0[which].iter().zip(&self.0[to]);
+        median(rounds.map(|(time, other)| time / other).collect())
+    }
+}
+
+pub fn times(contenders: &mut [Contender], rng: &mut Rng) -> Times {
+    times_of(ROUNDS, LEAST, contenders, rng)
 }
 
 /// The same with so many measurements, none shorter than `least`.
-pub fn medians_of(
+pub fn times_of(
     rounds: usize,
     least: Duration,
     contenders: &mut [Contender],
     rng: &mut Rng,
-) -> Vec<f64> {
+) -> Times {
     let repeats = contenders.iter_mut().map(|each| repetitions(each, least));
     let repeats: Vec<u32> = repeats.collect();
     let mut times = vec![Vec::with_capacity(rounds); contenders.len()];
@@ -32,7 +46,7 @@ pub fn medians_of(
             times[which].push(time.as_nanos() as f64 / f64::from(repeats[which]));
         }
     }
-    times.into_iter().map(median).collect()
+    Times(times)
 }
 
 fn measure(contender: &mut Contender, repeats: u32) -> Duration {

@@ -7,7 +7,8 @@ mod ffi_snapshot;
 #[path = "../journal/mod.rs"]
 mod journal;
 
-use bench::timing::medians_of;
+use bench::timing::times_of;
+use bench::verdict::at_most;
 use journal::{contender, fill, Bench, CALLS, KINDS, STEPS};
 use reference::memory::{Rng, MEMORY};
 use std::time::Duration;
@@ -22,15 +23,10 @@ const AREA_TARGET: f64 = 0.25;
 const ROUNDS: usize = 1_000;
 const LEAST: Duration = Duration::from_micros(5);
 
-fn verdict(what: &str, ratio: f64, target: f64) {
-    let reached = ratio <= target;
-    let word = if reached { "reached" } else { "not reached" };
-    println!("{what}: {ratio:.2} (target at most {target:.2}): {word}");
-}
-
 fn main() {
     let rng = &mut Rng::new(5);
     let last = STEPS as u64;
+    let per_call = |time: f64| time / CALLS as f64;
     println!("nanoseconds per call, medians of {ROUNDS} interleaved runs");
     println!(
         "{:<16} {:>8} {:>10} {:>6} {:>10} {:>8}",
@@ -41,14 +37,14 @@ fn main() {
         Bench::check(kind, 1);
         Bench::check(kind, last);
         let mut contenders = [contender(kind, 1), contender(kind, last), fill()];
-        let times = medians_of(ROUNDS, LEAST, &mut contenders, rng);
-        let calls = CALLS as f64;
-        let (first, last, fill) = (times[0] / calls, times[1] / calls, times[2]);
+        let times = times_of(ROUNDS, LEAST, &mut contenders, rng);
+        let (first, last) = (per_call(times.median(0)), per_call(times.median(1)));
+        let fill = times.median(2);
         let (ratio, to_fill) = (last / first, last / fill);
         println!("{name:<16} {first:>8.1} {last:>10.1} {ratio:>6.2} {fill:>10.1} {to_fill:>8.3}");
         (steps, areas) = (steps.max(ratio), areas.max(to_fill));
     }
-    verdict("step 4,096 to step 1, the slowest", steps, STEP_TARGET);
+    at_most("step 4,096 to step 1, the slowest", steps, STEP_TARGET);
     let what = format!("a call to a fill of {MEMORY} bytes, the slowest");
-    verdict(&what, areas, AREA_TARGET);
+    at_most(&what, areas, AREA_TARGET);
 }

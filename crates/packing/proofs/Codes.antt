@@ -16,10 +16,11 @@ use Rattle.flags.specs.Places.{Flagged, Seen, Ahead}
 use Rattle.flags.proofs.Places.{seen-none, seen-flags, seen-join, seen-clear, seen-first, some-set, first-few, ahead-none, ahead-after}
 use Rattle.packing.specs.Packed.{Found, pair, before, unpacked}
 use Rattle.packing.specs.Packed.Steps.{front-plain}
-use Rattle.packing.specs.Inner.{over, Into, Put, Copied, pairAt, Copied16, Looked}
+use Rattle.packing.specs.Inner.{over, Into, Copied, pairAt, Copied16, Looked}
+use Rattle.stores.specs.Stored.{Stored}
 use Rattle.packing.specs.declared.Unpacked.{Unpacked}
 use Rattle.packing.specs.declared.Unpacked.the-variants.{Malformed}
-use Rattle.packing.proofs.Written.{at-block, put-16, put-more}
+use Rattle.stores.proofs.Written.{at-block, put-16, put-more}
 use Rattle.packing.proofs.Frame.{Frame, frame-none, copied, copied-part}
 use Rattle.packing.proofs.UnpackSteps.{pair-there, zero-into, full-run, going-run}
 
@@ -31,7 +32,7 @@ copied-16 s i d o b n d′ c m hs hd eb en ed g em = record { seen = seen-flags 
     at j h = (λ z. pair (at-block s b i j eb h z) (at-block s n (i + 1) j en h z)) ∙ ap (λ (x : ℕ). pair (getD s (i + j) 0) (getD s x 0)) (omega arith)
 
 -- bytes that are no ED ED stand for themselves
-plain-bytes : (s : List ℕ) (i : ℕ) (d : List ℕ) (o n k : ℕ) (d′ : List ℕ) → Put d o (take n (drop i s)) d′ → k ≤ n → i + n ≤ length s → o + n ≤ length d
+plain-bytes : (s : List ℕ) (i : ℕ) (d : List ℕ) (o n k : ℕ) (d′ : List ℕ) → Stored d o (take n (drop i s)) d′ → k ≤ n → i + n ≤ length s → o + n ≤ length d
     → ((j : ℕ) → j < k → pairAt s (i + j) ≡ false) → Copied unpacked s i d o k d′
 plain-bytes s i d o n k d′ p few hs hd c =
     copied-part unpacked (λ (l : List ℕ). pair (getD l 0 0) (getD l 1 0) ≡ false) (λ x xs. front-plain (x ∷ xs) (omega arith)) s i d o n k d′ p few hs hd
@@ -41,7 +42,7 @@ plain-bytes s i d o n k d′ p few hs hd c =
 pub record Looking (s : List ℕ) (i : ℕ) (d₀ : List ℕ) (o : ℕ) (d : List ℕ) (m q : ℕ) : Type 0 where
   pub few : q ≤ 4
   pub seen : Seen (pairAt s) i (16 * q) m
-  pub stored : Put d₀ o (take (16 * q) (drop i s)) d
+  pub stored : Stored d₀ o (take (16 * q) (drop i s)) d
 
 pub looking-none : (s : List ℕ) (i : ℕ) (d : List ℕ) (o : ℕ) → Looking s i d o d 0 0
 looking-none s i d o = record { few = omega arith; seen = seen-none (pairAt s) i; stored = record { long = refl; wrote = ap (λ (n : ℕ). take n d) (add-zero o) ∙ sym (append-nil (take o d)) } }
@@ -54,7 +55,7 @@ module _ (s : List ℕ) (i : ℕ) (d₀ : List ℕ) (o : ℕ) (d : List ℕ) (m 
       record {
         few = omega arith;
         seen = subst (λ (n : ℕ). Seen (pairAt s) i n (bitOr m ((r * 2 ^ (16 * q)) % 18446744073709551616))) e (seen-join (pairAt s) i (16 * q) m r (g .seen) (c .seen) (omega arith));
-        stored = subst (λ (n : ℕ). Put d₀ o (take n (drop i s)) d′) e (put-more s i d₀ d d′ o (16 * q) 16 (omega arith) (g .stored) (c .stored));
+        stored = subst (λ (n : ℕ). Stored d₀ o (take n (drop i s)) d′) e (put-more s i d₀ d d′ o (16 * q) 16 (omega arith) (g .stored) (c .stored));
       }
 
   pub looking-all : 4 ≤ q → o + 96 ≤ length d₀ → Looked s i d₀ o m d
@@ -66,8 +67,8 @@ module _ (s : List ℕ) (i : ℕ) (d₀ : List ℕ) (o : ℕ) (d : List ℕ) (m 
       seen : Seen (pairAt s) i 64 m
       seen = subst (λ (n : ℕ). Seen (pairAt s) i n m) n (g .seen)
 
-      stored : Put d₀ o (take 64 (drop i s)) d
-      stored = subst (λ (n : ℕ). Put d₀ o (take n (drop i s)) d) n (g .stored)
+      stored : Stored d₀ o (take 64 (drop i s)) d
+      stored = subst (λ (n : ℕ). Stored d₀ o (take n (drop i s)) d) n (g .stored)
 
       go : (t : Bool) → eqb m 0 ≡ t → Looked s i d₀ o m d
       go true e =
@@ -140,7 +141,7 @@ module _ (s d₀ d : List ℕ) (i o m₀ : ℕ) (g : Unpacking s d₀ d i o m₀
     pub unpacking-full : (a : Unpacked) → a ≡ over (unpacked (drop (i + k) s)) → (n ≡ 0 → ⊥) → length d′ < o + k + n → Into (unpacked s) d₀ a d′
     unpacking-full a r z j = full-run (unpacked s) s d₀ d′ (i + k) (o + k) reached true (code h) n fits refl en a z j r
 
-    pub unpacking-run : (d″ : List ℕ) → Put d′ (o + k) (replicate n (getD s (i + k + 3) 0)) d″ → (n ≡ 0 → ⊥) → o + k + n ≤ length d′
+    pub unpacking-run : (d″ : List ℕ) → Stored d′ (o + k) (replicate n (getD s (i + k + 3) 0)) d″ → (n ≡ 0 → ⊥) → o + k + n ≤ length d′
         → (m₁ m₂ : ℕ) → m₁ ≡ m / 2 ^ k → m₂ ≡ m₁ / 2 ^ 4 → Unpacking s d₀ d″ (i + k + 4) (o + k + n) m₂
     unpacking-run d″ p z j m₁ m₂ e₁ e₂ =
         record {

@@ -7,8 +7,9 @@ use mathlib.Core.List.{List, [], _∷_, _++_, append-assoc}
 use lib.ListN.{length, take, drop, length-drop}
 use lib.Seq.{drop-drop, length-take-le}
 use Rattle.packing.specs.Packed.{Found, malformed, bytes, before}
-use Rattle.packing.specs.Inner.{Put, Copied}
-use Rattle.packing.proofs.Written.{put-front}
+use Rattle.packing.specs.Inner.{Copied}
+use Rattle.stores.specs.Stored.{Stored}
+use Rattle.stores.proofs.Written.{put-front}
 
 pub before-nil : (u : Found) → before [] u ≡ u
 before-nil malformed = refl
@@ -37,7 +38,7 @@ pub frame-none : (f : List ℕ → Found) (s d : List ℕ) → Frame f (f s) s d
 frame-none f s d = record { reach = omega arith; room = omega arith; long = refl; same = sym (before-nil (f s)) }
 
 module _ (f : List ℕ → Found) (u : Found) (s d₀ d : List ℕ) (i o : ℕ) (g : Frame f u s d₀ d i o) (d′ : List ℕ) where
-  pub onward : (ws : List ℕ) (j o′ : ℕ) → Next f s i ws j → Put d o ws d′ → o + length ws ≡ o′ → o′ ≤ length d → Frame f u s d₀ d′ j o′
+  pub onward : (ws : List ℕ) (j o′ : ℕ) → Next f s i ws j → Stored d o ws d′ → o + length ws ≡ o′ → o′ ≤ length d → Frame f u s d₀ d′ j o′
   onward ws j o′ n p e h =
       record {
         reach = n .inside;
@@ -67,7 +68,7 @@ stretch f plain one (x ∷ xs) (suc k) h n =
 
 -- of n bytes that were copied, the first k do
 pub copied-part : (f : List ℕ → Found) (plain : List ℕ → Type 0) → ((x : ℕ) (xs : List ℕ) → plain (x ∷ xs) → f (x ∷ xs) ≡ before (x ∷ []) (f xs))
-    → (s : List ℕ) (i : ℕ) (d : List ℕ) (o n k : ℕ) (d′ : List ℕ) → Put d o (take n (drop i s)) d′ → k ≤ n → i + n ≤ length s → o + n ≤ length d
+    → (s : List ℕ) (i : ℕ) (d : List ℕ) (o n k : ℕ) (d′ : List ℕ) → Stored d o (take n (drop i s)) d′ → k ≤ n → i + n ≤ length s → o + n ≤ length d
     → ((j : ℕ) → j < k → plain (drop (i + j) s)) → Copied f s i d o k d′
 copied-part f plain one s i d o n k d′ p few hs hd c =
     record {

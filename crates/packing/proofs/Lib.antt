@@ -1,4 +1,3 @@
-pub mod Written
 pub mod RunLength
 pub mod RunBlocks
 pub mod Frame

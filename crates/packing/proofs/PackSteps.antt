@@ -15,7 +15,8 @@ use Rattle.packing.specs.Packed.{bytes, front, unpacked, packed}
 use Rattle.packing.specs.Packed.Steps.{run-code, single-code, short-code, packed-nil}
 use Rattle.packing.specs.Packed.Promise.{unpacked-packed, packed-short}
 use Rattle.packing.specs.Packing.{Packs, fits}
-use Rattle.packing.specs.Inner.{runAt, RunLeft, Put, packedAs, PackedInto}
+use Rattle.packing.specs.Inner.{runAt, RunLeft, packedAs, PackedInto}
+use Rattle.stores.specs.Stored.{Stored}
 use Rattle.packing.proofs.Frame.{Frame, onward}
 use Rattle.packing.specs.declared.Fit.{Fit}
 use Rattle.packing.specs.declared.Fit.the-variants.{Length, TooShort}
@@ -83,7 +84,7 @@ never-length : (n : ℕ) → TooShort ≡ Length n → ⊥
 never-length n e = let z : _≡_ {A = ℕ} 0 1 = cc in omega arith
 
 module _ (ps s d₀ d : List ℕ) (i o : ℕ) (g : Frame packedAs (bytes ps) s d₀ d i o) where
-  again : (ws d′ : List ℕ) (j o′ : ℕ) → Coded s i ws j → Put d o ws d′ → o + length ws ≡ o′ → o′ ≤ length d → Frame packedAs (bytes ps) s d₀ d′ j o′
+  again : (ws d′ : List ℕ) (j o′ : ℕ) → Coded s i ws j → Stored d o ws d′ → o + length ws ≡ o′ → o′ ≤ length d → Frame packedAs (bytes ps) s d₀ d′ j o′
   again ws d′ j o′ n = onward packedAs (bytes ps) s d₀ d i o g d′ ws j o′ (record { step = ap bytes (n .step); inside = n .inside })
 
   whole : ps ≡ take o d ++ packed (drop i s)
@@ -121,19 +122,19 @@ module _ (ps s d₀ d : List ℕ) (i o : ℕ) (g : Frame packedAs (bytes ps) s d
 
   module _ (d′ : List ℕ) (h : i < length s) where
     module _ (r : ℕ) (l : RunLeft s i r) where
-      pub again-run-ed : Put d o (237 ∷ 237 ∷ r ∷ getD s i 0 ∷ []) d′ → getD s i 0 ≡ 237 → 2 ≤ r → o + 4 ≤ length d → Frame packedAs (bytes ps) s d₀ d′ (i + r) (o + 4)
+      pub again-run-ed : Stored d o (237 ∷ 237 ∷ r ∷ getD s i 0 ∷ []) d′ → getD s i 0 ≡ 237 → 2 ≤ r → o + 4 ≤ length d → Frame packedAs (bytes ps) s d₀ d′ (i + r) (o + 4)
       again-run-ed p e k m = again _ d′ (i + r) (o + 4) (next-run-ed s i h r l e k) p refl m
 
-      pub again-run : Put d o (237 ∷ 237 ∷ r ∷ getD s i 0 ∷ []) d′ → (getD s i 0 ≡ 237 → ⊥) → 5 ≤ r → o + 4 ≤ length d → Frame packedAs (bytes ps) s d₀ d′ (i + r) (o + 4)
+      pub again-run : Stored d o (237 ∷ 237 ∷ r ∷ getD s i 0 ∷ []) d′ → (getD s i 0 ≡ 237 → ⊥) → 5 ≤ r → o + 4 ≤ length d → Frame packedAs (bytes ps) s d₀ d′ (i + r) (o + 4)
       again-run p e k m = again _ d′ (i + r) (o + 4) (next-run s i h r l e k) p refl m
 
-      pub again-single : Put d o (getD s i 0 ∷ getD s (i + 1) 0 ∷ []) d′ → getD s i 0 ≡ 237 → r < 2 → i + 1 < length s → o + 2 ≤ length d → Frame packedAs (bytes ps) s d₀ d′ (i + 2) (o + 2)
+      pub again-single : Stored d o (getD s i 0 ∷ getD s (i + 1) 0 ∷ []) d′ → getD s i 0 ≡ 237 → r < 2 → i + 1 < length s → o + 2 ≤ length d → Frame packedAs (bytes ps) s d₀ d′ (i + 2) (o + 2)
       again-single p e k j m = again _ d′ (i + 2) (o + 2) (next-single s i h r l e k j) p refl m
 
-      pub again-last : Put d o (getD s i 0 ∷ []) d′ → getD s i 0 ≡ 237 → r < 2 → length s ≤ i + 1 → o < length d → Frame packedAs (bytes ps) s d₀ d′ (i + 1) (o + 1)
+      pub again-last : Stored d o (getD s i 0 ∷ []) d′ → getD s i 0 ≡ 237 → r < 2 → length s ≤ i + 1 → o < length d → Frame packedAs (bytes ps) s d₀ d′ (i + 1) (o + 1)
       again-last p e k j m = again _ d′ (i + 1) (o + 1) (next-last s i h r l e k j) p refl (omega arith)
 
-      pub again-short : Put d o (replicate r (getD s i 0)) d′ → (getD s i 0 ≡ 237 → ⊥) → r < 5 → o + r ≤ length d → Frame packedAs (bytes ps) s d₀ d′ (i + r) (o + r)
+      pub again-short : Stored d o (replicate r (getD s i 0)) d′ → (getD s i 0 ≡ 237 → ⊥) → r < 5 → o + r ≤ length d → Frame packedAs (bytes ps) s d₀ d′ (i + r) (o + r)
       again-short p e k m = again _ d′ (i + r) (o + r) (next-short s i h r l e k) p (ap (λ (n : ℕ). o + n) (length-replicate r (getD s i 0))) m
 
   module _ (h : i < length s) where

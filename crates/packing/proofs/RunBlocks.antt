@@ -14,7 +14,7 @@ use Rattle.flags.specs.Weight.{weight}
 use Rattle.flags.specs.Places.{Flagged, Seen, First, Ahead}
 use Rattle.flags.proofs.Places.{seen-flags, seen-clear, seen-first, some-set, first-few}
 use Rattle.packing.specs.Inner.{RunLeft, unlikeAt}
-use Rattle.packing.proofs.Written.{at-block}
+use Rattle.stores.proofs.Written.{at-block}
 use Rattle.packing.proofs.RunLength.{Running, running-one, running-more, run-stops, run-full}
 
 -- n bytes from i on are v

@@ -17,8 +17,9 @@ use Rattle.flags.proofs.Weights.{never, neither}
 use Rattle.flags.proofs.Places.{seen-flags, seen-clear, seen-first, seen-after, ahead-none}
 use Rattle.packing.specs.Packed.{Found, bytes, front, packed}
 use Rattle.packing.specs.Packed.Steps.{plain-code}
-use Rattle.packing.specs.Inner.{Put, Copied, unlikeAt, mayCode, packedAs, Stopped}
-use Rattle.packing.proofs.Written.{at-block, put-16, put-more, put-front}
+use Rattle.packing.specs.Inner.{Copied, unlikeAt, mayCode, packedAs, Stopped}
+use Rattle.stores.specs.Stored.{Stored}
+use Rattle.stores.proofs.Written.{at-block, put-16, put-more, put-front}
 use Rattle.packing.proofs.RunLength.{front-at}
 use Rattle.packing.proofs.Frame.{Frame, copied, copied-part}
 
@@ -44,7 +45,7 @@ mayCodeAt s p = mayCode (getD s p 0) (getD s (p + 1) 0) (getD s (p + 4) 0)
 module _ (s : List ℕ) (i : ℕ) (d d₁ d₂ : List ℕ) (o : ℕ) (b n f : List ℕ) (cu cs : List Bool) (u m : ℕ) (hs : i + 20 ≤ length s) (hd : o + 17 ≤ length d)
     (eb : b ≡ take 16 (drop i s)) (e₁ : d₁ ≡ put d o b) (en : n ≡ take 16 (drop (i + 1) s)) (gu : Flagged (λ j. not (eqb (getD b j 0) (getD n j 0))) cu 16) (eu : u ≡ weight cu)
     (e₂ : d₂ ≡ put d₁ (o + 1) n) (ef : f ≡ take 16 (drop (i + 4) s)) (gs : Flagged (λ j. mayCode (getD b j 0) (getD n j 0) (getD f j 0)) cs 16) (em : m ≡ weight cs) where
-  stored : Put d o (take 17 (drop i s)) d₂
+  stored : Stored d o (take 17 (drop i s)) d₂
   stored =
       let p = put-16 s i b d d₁ o (omega arith) (omega arith) eb e₁ in
       put-more s i d d₁ d₂ o 1 16 (omega arith) (put-front s i d o 16 1 d₁ p (omega arith) (omega arith) (omega arith))

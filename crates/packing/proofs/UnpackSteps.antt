@@ -14,7 +14,8 @@ use Rattle.slices.proofs.Fills.{cleared-whole}
 use Rattle.packing.specs.Packed.{Found, malformed, bytes, before, pair, run, unpacked}
 use Rattle.packing.specs.Packed.Steps.{front-plain, front-cut, front-run, unpacked-nil}
 use Rattle.packing.specs.Unpacking.{answerOf, leftBy, Unpacks}
-use Rattle.packing.specs.Inner.{over, Into, Put, pairAt}
+use Rattle.packing.specs.Inner.{over, Into, pairAt}
+use Rattle.stores.specs.Stored.{Stored}
 use Rattle.packing.proofs.Frame.{Frame, onward}
 use Rattle.packing.specs.declared.Unpacked.{Unpacked}
 use Rattle.packing.specs.declared.Unpacked.the-variants.{Good, WrongLength, Malformed}
@@ -127,7 +128,7 @@ module _ (u : Found) (s d₀ d : List ℕ) (i o : ℕ) (g : Frame unpacked u s d
       }
 
   module _ (r : Bool) (e : r ≡ pairAt s i) where
-    pub going-plain : (d′ : List ℕ) → Put d o (getD s i 0 ∷ []) d′ → i < length s → r ≡ false → o < length d → Frame unpacked u s d₀ d′ (i + 1) (o + 1)
+    pub going-plain : (d′ : List ℕ) → Stored d o (getD s i 0 ∷ []) d′ → i < length s → r ≡ false → o < length d → Frame unpacked u s d₀ d′ (i + 1) (o + 1)
     going-plain d′ p h f k =
         onward unpacked u s d₀ d i o g d′ (getD s i 0 ∷ []) (i + 1) (o + 1) (record { step = step-plain s i r e h f; inside = omega arith }) p refl (omega arith)
 
@@ -149,7 +150,7 @@ module _ (u : Found) (s d₀ d : List ℕ) (i o : ℕ) (g : Frame unpacked u s d
       full-run a z k p =
           over-into a (replicate n (getD s (i + 3) 0)) (unpacked (drop (i + 4) s)) p (stands z) (omega (arith, length-replicate n (getD s (i + 3) 0)))
 
-      pub going-run : (d′ : List ℕ) → Put d o (replicate n (getD s (i + 3) 0)) d′ → (n ≡ 0 → ⊥) → o + n ≤ length d → Frame unpacked u s d₀ d′ (i + 4) (o + n)
+      pub going-run : (d′ : List ℕ) → Stored d o (replicate n (getD s (i + 3) 0)) d′ → (n ≡ 0 → ⊥) → o + n ≤ length d → Frame unpacked u s d₀ d′ (i + 4) (o + n)
       going-run d′ p z k =
           onward unpacked u s d₀ d i o g d′ (replicate n (getD s (i + 3) 0)) (i + 4) (o + n) (record { step = stands z; inside = h }) p
           (ap (λ (m : ℕ). o + m) (length-replicate n (getD s (i + 3) 0))) k

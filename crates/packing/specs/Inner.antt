@@ -7,6 +7,7 @@ use lib.Dec.{eqb}
 use lib.Count.{trailingZeros}
 use lib.ListN.{length, take, drop, getD}
 use Rattle.flags.specs.Places.{Seen, Ahead}
+use Rattle.stores.specs.Stored.{Stored}
 use Rattle.packing.specs.Packed.{Found, malformed, bytes, before, pair, unpacked, packed, front, ED}
 use Rattle.packing.specs.Unpacking.{answerOf, leftBy}
 use Rattle.packing.specs.Packing.{fits}
@@ -14,11 +15,6 @@ use Rattle.packing.specs.declared.Unpacked.{Unpacked}
 use Rattle.packing.specs.declared.Unpacked.the-variants.{Good, WrongLength, Malformed}
 use Rattle.packing.specs.declared.Fit.{Fit}
 use Rattle.packing.specs.declared.Fit.the-variants.{Length}
-
--- ws was written over d₀ from o on; what stands after it is free
-pub record Put (d₀ : List ℕ) (o : ℕ) (ws d : List ℕ) : Type 0 where
-  pub long : length d ≡ length d₀
-  pub wrote : take (o + length ws) d ≡ take o d₀ ++ ws
 
 -- the answer where the part is full and data are left
 abbrev pub over : Found → Unpacked
@@ -37,13 +33,13 @@ pairAt s p = pair (getD s p 0) (getD s (p + 1) 0)
 -- m flags ED ED in 16 bytes of s from i on, which were written over d₀ from o on
 pub record Copied16 (s : List ℕ) (i : ℕ) (d₀ : List ℕ) (o m : ℕ) (d : List ℕ) : Type 0 where
   pub seen : Seen (pairAt s) i 16 m
-  pub stored : Put d₀ o (take 16 (drop i s)) d
+  pub stored : Stored d₀ o (take 16 (drop i s)) d
 
 -- under f the first k bytes of s from i on stand for themselves, and were written over d₀ from o on
 pub record Copied (f : List ℕ → Found) (s : List ℕ) (i : ℕ) (d₀ : List ℕ) (o k : ℕ) (d : List ℕ) : Type 0 where
   pub inside : i + k ≤ length s
   pub step : f (drop i s) ≡ before (take k (drop i s)) (f (drop (i + k) s))
-  pub stored : Put d₀ o (take k (drop i s)) d
+  pub stored : Stored d₀ o (take k (drop i s)) d
 
 -- m flags ED ED from i on: the bytes before the first one are copied, or 64 where it flags none
 pub record Looked (s : List ℕ) (i : ℕ) (d₀ : List ℕ) (o m : ℕ) (d : List ℕ) : Type 0 where

@@ -2,7 +2,6 @@
 // What stands above relies on specs/Unpacking, specs/Packing and the laws of specs/Packed/Promise.
 mod packer;
 mod runs;
-mod stores;
 mod unpacker;
 
 ghost use Prim.Native.Nat.{_+_, _≤_, _<_};

@@ -2,18 +2,14 @@
 use crate::Fit;
 use crate::runs::run_at;
 use crate::runs::run_from;
-use crate::stores::fill_run;
-use crate::stores::put_one;
-use crate::stores::put_run;
-use crate::stores::put_short;
-use crate::stores::put_two;
 ghost use Prim.Native.Nat.{_+_, _≤_, _<_};
 ghost use mathlib.Core.Path.{_≡_};
 ghost use mathlib.Core.Bool.{not};
-ghost use mathlib.Core.List.{_++_};
+ghost use mathlib.Core.List.{_∷_, [], _++_};
 ghost use lib.Dec.{eqb};
 ghost use lib.ListN.{length, getD, take, drop};
 ghost use Rattle.flags.specs.Places.{Flagged};
+ghost use Rattle.stores.specs.Stored.{Stored};
 ghost use Rattle.packing.specs.Packed.{packed};
 ghost use Rattle.packing.specs.Inner.{mayCode, Stopped, PackedInto};
 
@@ -50,7 +46,7 @@ pub(crate) fn pack_into(src: &[u8], dst: &mut [u8]) -> Fit
                     i = p + n;
                     o = q + 4;
                 } else {
-                    put_two(dst, q, v, src[p + 1]);
+                    stores::put_two(dst, q, v, src[p + 1]);
                     i = p + 2;
                     o = q + 2;
                 }
@@ -59,7 +55,7 @@ pub(crate) fn pack_into(src: &[u8], dst: &mut [u8]) -> Fit
                 i = p + n;
                 o = q + 4;
             } else {
-                put_short(dst, q, n, v);
+                stores::put_short(dst, q, n, v);
                 i = p + n;
                 o = q + n;
             }
@@ -90,14 +86,14 @@ fn pack_rest(src: &[u8], from: usize, dst: &mut [u8], at: usize) -> Fit
                 if dst.len() < o + 2 {
                     return Fit::TooShort;
                 }
-                put_two(dst, o, v, src[i + 1]);
+                stores::put_two(dst, o, v, src[i + 1]);
                 o += 2;
                 i += 2;
             } else {
                 if dst.len() <= o {
                     return Fit::TooShort;
                 }
-                put_one(dst, o, v);
+                stores::put_one(dst, o, v);
                 o += 1;
                 i += 1;
             }
@@ -113,7 +109,7 @@ fn pack_rest(src: &[u8], from: usize, dst: &mut [u8], at: usize) -> Fit
             if dst.len() < e {
                 return Fit::TooShort;
             }
-            fill_run(dst, o, n, v);
+            stores::fill_run(dst, o, n, v);
             o = e;
             i += n;
         }
@@ -176,4 +172,15 @@ fn unlike_next(block: [u8; 16], next: [u8; 16]) -> [bool; 16]
         k += 1;
     }
     c
+}
+
+// The code of a run.
+fn put_run(dst: &mut [u8], o: usize, n: usize, v: u8)
+    requires { ⌜ (o + 4 ≤ length (now dst)) × (n < 256) ⌝ }
+    ensures { λ _. ⌜ Stored (now (dst .entry)) o (237 ∷ 237 ∷ n ∷ v ∷ []) (now (dst .exit)) ⌝ }
+{
+    dst[o] = 237;
+    dst[o + 1] = 237;
+    dst[o + 2] = n as u8;
+    dst[o + 3] = v;
 }

@@ -1,8 +1,5 @@
 // Unpacking. Where ED ED stands is looked up for 64 places at once, and the flags serve for every code among them.
 use crate::Unpacked;
-use crate::stores::fill_run;
-use crate::stores::fill_short;
-use crate::stores::put_one;
 ghost use Prim.Native.Nat.{_+_, _≤_, _<_};
 ghost use mathlib.Core.Path.{_≡_};
 ghost use lib.ListN.{length, getD, take, drop};
@@ -35,7 +32,7 @@ pub(crate) fn unpack_into(src: &[u8], dst: &mut [u8]) -> Unpacked
                 return Unpacked::Malformed;
             }
             if n <= 32 {
-                fill_short(dst, q, n, y);
+                stores::fill_short(dst, q, n, y);
                 i = p + 4;
                 o = q + n;
                 codes = flags::after(flags::after(codes, k), 4);
@@ -44,7 +41,7 @@ pub(crate) fn unpack_into(src: &[u8], dst: &mut [u8]) -> Unpacked
                 if dst.len() < e {
                     return rest(src, p);
                 }
-                fill_run(dst, q, n, y);
+                stores::fill_run(dst, q, n, y);
                 i = p + 4;
                 o = e;
                 codes = flags::after(flags::after(codes, k), 4);
@@ -124,14 +121,14 @@ fn unpack_rest(src: &[u8], from: usize, dst: &mut [u8], at: usize) -> Unpacked
             if dst.len() < e {
                 return rest(src, i);
             }
-            fill_run(dst, o, n, src[i + 3]);
+            stores::fill_run(dst, o, n, src[i + 3]);
             o = e;
             i += 4;
         } else {
             if dst.len() <= o {
                 return rest(src, i);
             }
-            put_one(dst, o, src[i]);
+            stores::put_one(dst, o, src[i]);
             o += 1;
             i += 1;
         }

@@ -8,6 +8,38 @@ pub mod wordwise;
 
 pub use sliced::{pack_into, unpack_into, Answer};
 
+/// Both directions into a lent part.
+pub trait Form {
+    fn unpack_into(src: &[u8], dst: &mut [u8]) -> Answer;
+    fn pack_into(src: &[u8], dst: &mut [u8]) -> Option<usize>;
+}
+
+/// The ordinary slice form.
+pub struct Ordinary;
+
+/// The word-wise form.
+pub struct Wordwise;
+
+impl Form for Ordinary {
+    fn unpack_into(src: &[u8], dst: &mut [u8]) -> Answer {
+        unpack_into(src, dst)
+    }
+
+    fn pack_into(src: &[u8], dst: &mut [u8]) -> Option<usize> {
+        pack_into(src, dst)
+    }
+}
+
+impl Form for Wordwise {
+    fn unpack_into(src: &[u8], dst: &mut [u8]) -> Answer {
+        wordwise::unpack_into(src, dst)
+    }
+
+    fn pack_into(src: &[u8], dst: &mut [u8]) -> Option<usize> {
+        wordwise::pack_into(src, dst)
+    }
+}
+
 /// The byte that, doubled, opens a code.
 pub const ED: u8 = 0xED;
 

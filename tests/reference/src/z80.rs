@@ -1,5 +1,5 @@
 //! Reading `.z80` files of v1, v2 and v3 and writing v3: the plain form, the calls over byte buffers that the
-//! library exports, and the form that the benchmark measures against.
+//! library exports, and the forms that the benchmark measures against.
 
 mod buffers;
 pub mod direct;
@@ -9,7 +9,7 @@ mod tests;
 mod write;
 
 pub use buffers::{read_bytes, write_bytes};
-pub use read::read;
+pub use read::{packed_blocks, read};
 pub use write::write;
 
 /// The longest file that is ever written.

@@ -1,5 +1,5 @@
 //! Both directions into a lent part, in the ordinary form: codes found by `windows(2).position`, plain
-//! stretches copied as slices, runs filled as slices. These are the benchmark's anchors.
+//! stretches copied as slices, runs filled as slices.
 
 use super::{ED, LONGEST};
 

@@ -78,9 +78,9 @@ fn p11_malformed() {
     }
 }
 
-fn check_unpack_into(code: &[u8], length: usize) {
+fn check_unpack_into<F: Form>(code: &[u8], length: usize) {
     let mut part = vec![0xA5; length];
-    let answer = unpack_into(code, &mut part);
+    let answer = F::unpack_into(code, &mut part);
     let (expected, bytes) = match unpacked(code) {
         Unpacked::Malformed => (Answer::Malformed, vec![0; length]),
         Unpacked::Bytes(bytes) if bytes.len() == length => (Answer::Good, bytes),
@@ -93,9 +93,9 @@ fn check_unpack_into(code: &[u8], length: usize) {
     );
 }
 
-fn check_pack_into(data: &[u8], length: usize) {
+fn check_pack_into<F: Form>(data: &[u8], length: usize) {
     let mut part = vec![0xA5; length];
-    let answer = pack_into(data, &mut part);
+    let answer = F::pack_into(data, &mut part);
     let mut bytes = packed(data);
     let expected = (bytes.len() <= length).then_some(bytes.len());
     if expected.is_none() {
@@ -109,15 +109,14 @@ fn check_pack_into(data: &[u8], length: usize) {
     );
 }
 
-#[test]
-fn fast_forms_agree_with_the_plain_ones() {
+fn check_form<F: Form>() {
     let mut rng = Rng::new(1);
     for case in 0..60_000 {
         let longest = if case % 8 == 0 { 300 } else { 9 };
         let data = rng.runs(30, longest);
         let code = packed(&data);
         for length in [code.len(), code.len() + 9, code.len().saturating_sub(1), 0] {
-            check_pack_into(&data, length);
+            check_pack_into::<F>(&data, length);
         }
         let mut codes = rng.codes(60);
         if case % 3 == 0 {
@@ -128,8 +127,18 @@ fn fast_forms_agree_with_the_plain_ones() {
             Unpacked::Malformed => rng.below(600),
         };
         for length in [full, full + 1, full.saturating_sub(1), rng.below(full + 1)] {
-            check_unpack_into(&codes, length);
+            check_unpack_into::<F>(&codes, length);
         }
-        check_unpack_into(&data, data.len());
+        check_unpack_into::<F>(&data, data.len());
     }
+}
+
+#[test]
+fn the_ordinary_form_agrees_with_the_plain_one() {
+    check_form::<Ordinary>();
+}
+
+#[test]
+fn the_word_wise_form_agrees_with_the_plain_one() {
+    check_form::<Wordwise>();
 }

@@ -1,4 +1,5 @@
-//! The same calls, eight and sixteen bytes at a time: what ordinary Rust can reach with more effort.
+//! The same calls, eight and sixteen bytes at a time: what ordinary Rust can reach with more effort, and the
+//! benchmark's anchor.
 
 mod pack;
 mod unpack;

@@ -1,20 +1,21 @@
-//! The same calls without a copy: pages unpacked in the area, blocks packed in the output.
+//! The same calls without a copy, with either form of packing: pages unpacked in the area, blocks packed in
+//! the output.
 
-use super::read::{next_block, version, V1_PAGES};
+use super::read::{next_block, split, V1_PAGES};
 use super::{BLOCK_HEAD, PLAIN};
 use crate::machine::{flags, from_header, header, own_header, Machine, Model, Version, HEADER};
 use crate::memory::{MEMORY, PAGE};
-use crate::packing::{pack_into, unpack_into, Answer};
+use crate::packing::{Answer, Form};
 use crate::refusal::{number, Refusal};
 
 /// `read_bytes` of the plain form.
-pub fn read_bytes(file: &[u8], area: &mut [u8], header_bytes: &mut [u8]) -> u32 {
+pub fn read_bytes<F: Form>(file: &[u8], area: &mut [u8], header_bytes: &mut [u8]) -> u32 {
     if header_bytes.len() != HEADER {
         area.fill(0);
         header_bytes.fill(0);
         return Refusal::Machine.number();
     }
-    let result = read_into(file, area);
+    let result = read_into::<F>(file, area);
     let machine = match &result {
         Ok(machine) => machine,
         Err(_) => {
@@ -26,30 +27,27 @@ pub fn read_bytes(file: &[u8], area: &mut [u8], header_bytes: &mut [u8]) -> u32 
     number(&result)
 }
 
-fn read_into(file: &[u8], area: &mut [u8]) -> Result<Machine, Refusal> {
+fn read_into<F: Form>(file: &[u8], area: &mut [u8]) -> Result<Machine, Refusal> {
     if area.len() != MEMORY {
         return Err(Refusal::ReadArea);
     }
-    let version = version(file)?;
-    if file.len() < version.header_length() {
-        return Err(Refusal::ShortFile);
-    }
-    let (header, body) = file.split_at(version.header_length());
+    let (version, header, body) = split(file)?;
     let machine = from_header(version, header)?;
     area.fill(0);
     match version {
-        Version::V1 => read_v1(flags(header) & 0x20 != 0, body, area)?,
-        _ => read_blocks(machine.model, body, area)?,
+        Version::V1 => read_v1::<F>(flags(header) & 0x20 != 0, body, area)?,
+        _ => read_blocks::<F>(machine.model, body, area)?,
     }
     Ok(machine)
 }
 
-fn read_v1(is_packed: bool, body: &[u8], area: &mut [u8]) -> Result<(), Refusal> {
+fn read_v1<F: Form>(is_packed: bool, body: &[u8], area: &mut [u8]) -> Result<(), Refusal> {
     let mut unpacked;
     let bytes = if is_packed {
         let code = body.strip_suffix(&[0x00, 0xED, 0xED, 0x00]);
         unpacked = vec![0; 3 * PAGE];
-        accept(unpack_into(code.ok_or(Refusal::EndMarker)?, &mut unpacked))?;
+        let code = code.ok_or(Refusal::EndMarker)?;
+        accept(F::unpack_into(code, &mut unpacked))?;
         &unpacked[..]
     } else {
         body
@@ -63,7 +61,7 @@ fn read_v1(is_packed: bool, body: &[u8], area: &mut [u8]) -> Result<(), Refusal>
     Ok(())
 }
 
-fn read_blocks(model: Model, mut body: &[u8], area: &mut [u8]) -> Result<(), Refusal> {
+fn read_blocks<F: Form>(model: Model, mut body: &[u8], area: &mut [u8]) -> Result<(), Refusal> {
     let blocks = Machine::blocks(model);
     let (mut seen, mut count) = ([false; 8], 0);
     while !body.is_empty() {
@@ -73,7 +71,7 @@ fn read_blocks(model: Model, mut body: &[u8], area: &mut [u8]) -> Result<(), Ref
         if block.length == PLAIN {
             part.copy_from_slice(block.data);
         } else {
-            accept(unpack_into(block.data, part))?;
+            accept(F::unpack_into(block.data, part))?;
         }
         seen[page] = true;
         count += 1;
@@ -94,15 +92,15 @@ fn accept(answer: Answer) -> Result<(), Refusal> {
 }
 
 /// `write_bytes` of the plain form.
-pub fn write_bytes(header: &[u8], area: &[u8], out: &mut [u8], length: &mut u64) -> u32 {
-    let result = write_into(header, area, out);
+pub fn write_bytes<F: Form>(header: &[u8], area: &[u8], out: &mut [u8], length: &mut u64) -> u32 {
+    let result = write_into::<F>(header, area, out);
     let end = *result.as_ref().unwrap_or(&0);
     out[end..].fill(0);
     *length = end as u64;
     number(&result)
 }
 
-fn write_into(header: &[u8], area: &[u8], out: &mut [u8]) -> Result<usize, Refusal> {
+fn write_into<F: Form>(header: &[u8], area: &[u8], out: &mut [u8]) -> Result<usize, Refusal> {
     let machine = own_header(header).ok_or(Refusal::Machine)?;
     if area.len() != MEMORY {
         return Err(Refusal::Area);
@@ -112,16 +110,17 @@ fn write_into(header: &[u8], area: &[u8], out: &mut [u8]) -> Result<usize, Refus
     let mut end = HEADER;
     for &(number, page) in Machine::blocks(machine.model) {
         let bytes = &area[page * PAGE..][..PAGE];
-        end += write_block(number, bytes, &mut out[end..]).ok_or(Refusal::Output)?;
+        let block = write_block::<F>(number, bytes, &mut out[end..]);
+        end += block.ok_or(Refusal::Output)?;
     }
     Ok(end)
 }
 
 /// Writes a block to the front of `out`; its length with the head, or nothing if it does not fit.
-fn write_block(number: u8, bytes: &[u8], out: &mut [u8]) -> Option<usize> {
+fn write_block<F: Form>(number: u8, bytes: &[u8], out: &mut [u8]) -> Option<usize> {
     let (head, room) = out.split_at_mut_checked(BLOCK_HEAD)?;
     let shorter = room.len().min(PAGE - 1);
-    let (length, taken) = match pack_into(bytes, &mut room[..shorter]) {
+    let (length, taken) = match F::pack_into(bytes, &mut room[..shorter]) {
         Some(length) => (length as u16, length),
         None => {
             room.get_mut(..PAGE)?.copy_from_slice(bytes);

@@ -12,11 +12,7 @@ pub const V1_PAGES: [usize; 3] = [5, 2, 0];
 const END_MARKER: [u8; 4] = [0x00, 0xED, 0xED, 0x00];
 
 pub fn read(file: &[u8]) -> Result<(Machine, Vec<u8>), Refusal> {
-    let version = version(file)?;
-    if file.len() < version.header_length() {
-        return Err(Refusal::ShortFile);
-    }
-    let (header, body) = file.split_at(version.header_length());
+    let (version, header, body) = split(file)?;
     let machine = from_header(version, header)?;
     let memory = match version {
         Version::V1 => v1_memory(flags(header) & 0x20 != 0, body)?,
@@ -25,7 +21,15 @@ pub fn read(file: &[u8]) -> Result<(Machine, Vec<u8>), Refusal> {
     Ok((machine, memory))
 }
 
-pub fn version(file: &[u8]) -> Result<Version, Refusal> {
+/// The version, the header and the bytes after it.
+pub fn split(file: &[u8]) -> Result<(Version, &[u8], &[u8]), Refusal> {
+    let version = version(file)?;
+    let split = file.split_at_checked(version.header_length());
+    let (header, body) = split.ok_or(Refusal::ShortFile)?;
+    Ok((version, header, body))
+}
+
+fn version(file: &[u8]) -> Result<Version, Refusal> {
     if file.len() < 30 {
         return Err(Refusal::ShortFile);
     }
@@ -126,4 +130,19 @@ pub fn next_block(body: &[u8]) -> Result<Block<'_>, Refusal> {
         data,
         after,
     })
+}
+
+/// The RAM page and the bytes of every packed block of a v2 or v3 file, as they are stored.
+pub fn packed_blocks(file: &[u8]) -> Result<Vec<(usize, &[u8])>, Refusal> {
+    let (version, header, mut body) = split(file)?;
+    let blocks = Machine::blocks(from_header(version, header)?.model);
+    let mut packed = Vec::new();
+    while !body.is_empty() {
+        let block = next_block(body)?;
+        if block.length != PLAIN {
+            packed.push((block.page(blocks, &[false; 8])?, block.data));
+        }
+        body = block.after;
+    }
+    Ok(packed)
 }

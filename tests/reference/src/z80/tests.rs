@@ -1,16 +1,22 @@
-//! The examples of the rules, and the direct form against the plain one.
+//! The examples of the rules, and the direct forms against the plain one.
 
 use super::*;
 use crate::machine::{header, Machine, Model, HEADER};
 use crate::memory::{images, Rng, MEMORY, PAGE};
+use crate::packing::{packed, Ordinary, Wordwise};
 
-/// The answer for a file, read into an area of `area` bytes by both forms.
+/// The answer for a file, read into an area of `area` bytes by every form.
 fn answer(file: &[u8], area: usize) -> u32 {
-    let (mut one, mut two) = (vec![0xA5; area], vec![0x5A; area]);
-    let (mut first, mut second) = ([1; HEADER], [2; HEADER]);
+    let (mut one, mut first) = (vec![0xA5; area], [1; HEADER]);
     let answer = read_bytes(file, &mut one, &mut first);
-    assert_eq!(direct::read_bytes(file, &mut two, &mut second), answer);
-    assert!(one == two && first == second);
+    for read in [
+        direct::read_bytes::<Ordinary>,
+        direct::read_bytes::<Wordwise>,
+    ] {
+        let (mut two, mut second) = (vec![0x5A; area], [2; HEADER]);
+        assert_eq!(read(file, &mut two, &mut second), answer);
+        assert!(one == two && first == second);
+    }
     if answer != 0 {
         assert!(one.iter().all(|byte| *byte == 0));
         assert_eq!(first, header(&Machine::blank()));
@@ -18,16 +24,18 @@ fn answer(file: &[u8], area: usize) -> u32 {
     answer
 }
 
-/// The file of both forms in an output of `room` bytes, or the number.
+/// The file of every form in an output of `room` bytes, or the number.
 fn written(header: &[u8], area: &[u8], room: usize) -> Result<Vec<u8>, u32> {
-    let (mut one, mut two) = (vec![0xA5; room], vec![0x5A; room]);
-    let (mut first, mut second) = (1, 2);
+    let (mut one, mut first) = (vec![0xA5; room], 1);
     let answer = write_bytes(header, area, &mut one, &mut first);
-    assert_eq!(
-        direct::write_bytes(header, area, &mut two, &mut second),
-        answer
-    );
-    assert!(one == two && first == second);
+    for write in [
+        direct::write_bytes::<Ordinary>,
+        direct::write_bytes::<Wordwise>,
+    ] {
+        let (mut two, mut second) = (vec![0x5A; room], 2);
+        assert_eq!(write(header, area, &mut two, &mut second), answer);
+        assert!(one == two && first == second);
+    }
     let length = first as usize;
     assert!(one[length..].iter().all(|byte| *byte == 0));
     one.truncate(length);
@@ -70,7 +78,11 @@ fn an_area_one_byte_short() {
 fn header_buffers_of_other_lengths() {
     let file = write(&machine(Model::K48), &vec![0; MEMORY]);
     for length in [0, 85, 87] {
-        for read in [read_bytes, direct::read_bytes] {
+        for read in [
+            read_bytes,
+            direct::read_bytes::<Ordinary>,
+            direct::read_bytes::<Wordwise>,
+        ] {
             let (mut area, mut bytes) = (vec![1; 5], vec![1; length]);
             assert_eq!(read(&file, &mut area, &mut bytes), 20);
             assert!(area == [0; 5] && bytes == vec![0; length]);
@@ -104,6 +116,18 @@ fn images_are_written_and_read_back() {
         }
         assert_eq!(answer(&file, MEMORY), 0);
         assert_eq!(read(&file), Ok((machine, memory)));
+    }
+}
+
+#[test]
+fn packed_blocks_are_those_that_are_shorter_than_a_page() {
+    for (_, memory) in images(6) {
+        let file = write(&machine(Model::K128), &memory);
+        let pages = memory.chunks(PAGE).map(packed).enumerate();
+        let shorter: Vec<_> = pages.filter(|(_, code)| code.len() < PAGE).collect();
+        let blocks = packed_blocks(&file).expect("our own file");
+        let blocks = blocks.into_iter().map(|(page, code)| (page, code.to_vec()));
+        assert_eq!(blocks.collect::<Vec<_>>(), shorter);
     }
 }
 

@@ -1,7 +1,7 @@
-use Rattle.packing.proofs.Written.{put-part}
+use Rattle.stores.proofs.Written.{put-part}
 use borrow.Author.Needs.{needs}
-use Rattle.packing.proofs.stores.fill_run.Statement.{statement}
-use Rattle.packing.proofs.stores.fill_run.Tie as tie
+use Rattle.stores.proofs.fill_run.Statement.{statement}
+use Rattle.stores.proofs.fill_run.Tie as tie
 
 add-e : tie.Need-add-e
 add-e c = search needs

@@ -1,10 +1,10 @@
-use Rattle.packing.proofs.Written.{put-2}
+use Rattle.stores.proofs.Written.{put-2}
 use Prim.Native.Nat.{_-_}
 use native.Mathlib.Omega.{arith}
 use lib.ListN.{length-set}
 use borrow.Author.Needs.{needs}
-use Rattle.packing.proofs.stores.put_two.Statement.{statement}
-use Rattle.packing.proofs.stores.put_two.Tie as tie
+use Rattle.stores.proofs.put_two.Statement.{statement}
+use Rattle.stores.proofs.put_two.Tie as tie
 
 slice-write-dst : tie.Need-slice-write-dst
 slice-write-dst c = search needs

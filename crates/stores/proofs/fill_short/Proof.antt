@@ -1,7 +1,7 @@
-use Rattle.packing.proofs.Written.{put-up-to-32}
+use Rattle.stores.proofs.Written.{put-up-to-32}
 use borrow.Author.Needs.{needs}
-use Rattle.packing.proofs.stores.fill_short.Statement.{statement}
-use Rattle.packing.proofs.stores.fill_short.Tie as tie
+use Rattle.stores.proofs.fill_short.Statement.{statement}
+use Rattle.stores.proofs.fill_short.Tie as tie
 
 add-f : tie.Need-add-f
 add-f c = search needs

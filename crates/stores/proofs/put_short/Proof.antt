@@ -1,10 +1,10 @@
-use Rattle.packing.proofs.Written.{put-up-to-4}
+use Rattle.stores.proofs.Written.{put-up-to-4}
 use Prim.Native.Nat.{_-_}
 use native.Mathlib.Omega.{arith}
 use lib.ListN.{length-set}
 use borrow.Author.Needs.{needs}
-use Rattle.packing.proofs.stores.put_short.Statement.{statement}
-use Rattle.packing.proofs.stores.put_short.Tie as tie
+use Rattle.stores.proofs.put_short.Statement.{statement}
+use Rattle.stores.proofs.put_short.Tie as tie
 
 slice-write-dst : tie.Need-slice-write-dst
 slice-write-dst c = search needs

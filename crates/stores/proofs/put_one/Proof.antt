@@ -1,8 +1,8 @@
-use Rattle.packing.proofs.Written.{put-1}
+use Rattle.stores.proofs.Written.{put-1}
 use Prim.Native.Nat.{_-_}
 use borrow.Author.Needs.{needs}
-use Rattle.packing.proofs.stores.put_one.Statement.{statement}
-use Rattle.packing.proofs.stores.put_one.Tie as tie
+use Rattle.stores.proofs.put_one.Statement.{statement}
+use Rattle.stores.proofs.put_one.Tie as tie
 
 slice-write-dst : tie.Need-slice-write-dst
 slice-write-dst c = search needs

@@ -1,10 +1,10 @@
-use Rattle.packing.proofs.Written.{put-4}
+use Rattle.stores.proofs.Written.{put-4}
 use Prim.Native.Nat.{_-_}
 use native.Mathlib.Omega.{arith}
 use lib.ListN.{length-set}
 use borrow.Author.Needs.{needs}
-use Rattle.packing.proofs.stores.put_run.Statement.{statement}
-use Rattle.packing.proofs.stores.put_run.Tie as tie
+use Rattle.packing.proofs.packer.put_run.Statement.{statement}
+use Rattle.packing.proofs.packer.put_run.Tie as tie
 
 slice-write-dst : tie.Need-slice-write-dst
 slice-write-dst c = search needs

@@ -8,7 +8,7 @@ pub use present::{check, reader, writer};
 #[cfg(libspectrum)]
 mod present {
     use crate::libspectrum::{read, start};
-    use crate::z80::Stored;
+    use crate::speed::Stored;
     use bench::timing::Contender;
     use std::hint::black_box;
 
@@ -16,7 +16,7 @@ mod present {
     pub fn check(stored: &Stored, length: usize) {
         assert!(start());
         let snap = read(&stored.file_and_room).expect("a snapshot");
-        for (page, bytes) in stored.memory.chunks(16_384).enumerate() {
+        for (page, bytes) in stored.pages().enumerate() {
             assert!(snap.page(page) == Some(bytes));
         }
         assert_eq!(snap.write(), length);
@@ -43,7 +43,7 @@ mod present {
 
 #[cfg(not(libspectrum))]
 mod absent {
-    use crate::z80::Stored;
+    use crate::speed::Stored;
     use bench::timing::Contender;
 
     pub fn check(_: &Stored, _: usize) {}
