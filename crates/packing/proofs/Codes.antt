@@ -47,7 +47,7 @@ pub record Looking (s : List ℕ) (i : ℕ) (d₀ : List ℕ) (o : ℕ) (d : Lis
 pub looking-none : (s : List ℕ) (i : ℕ) (d : List ℕ) (o : ℕ) → Looking s i d o d 0 0
 looking-none s i d o = record { few = omega arith; seen = seen-none (pairAt s) i; stored = record { long = refl; wrote = ap (λ (n : ℕ). take n d) (add-zero o) ∙ sym (append-nil (take o d)) } }
 
-module _ (s : List ℕ) (i : ℕ) (d₀ : List ℕ) (o : ℕ) (d : List ℕ) (m q : ℕ) (g : Looking s i d₀ o d m q) (hs : i + 68 ≤ length s) where
+module _ (s : List ℕ) (i : ℕ) (d₀ : List ℕ) (o : ℕ) (d : List ℕ) (m q : ℕ) (g : Looking s i d₀ o d m q) (hs : i + 65 ≤ length s) where
   pub looking-more : (d′ : List ℕ) (r : ℕ) → q < 4 → Copied16 s (i + 16 * q) d (o + 16 * q) r d′
       → Looking s i d₀ o d′ (bitOr m ((r * 2 ^ (16 * q)) % 18446744073709551616)) (q + 1)
   looking-more d′ r h c =
@@ -58,7 +58,7 @@ module _ (s : List ℕ) (i : ℕ) (d₀ : List ℕ) (o : ℕ) (d : List ℕ) (m 
         stored = subst (λ (n : ℕ). Stored d₀ o (take n (drop i s)) d′) e (put-more s i d₀ d d′ o (16 * q) 16 (omega arith) (g .stored) (c .stored));
       }
 
-  pub looking-all : 4 ≤ q → o + 96 ≤ length d₀ → Looked s i d₀ o m d
+  pub looking-all : 4 ≤ q → o + 64 ≤ length d₀ → Looked s i d₀ o m d
   looking-all h hd = go (eqb m 0) refl
     where
       n : 16 * q ≡ 64
@@ -88,7 +88,7 @@ module _ (s : List ℕ) (i : ℕ) (d₀ : List ℕ) (o : ℕ) (d : List ℕ) (m 
           }
 
 -- the next ED ED is near
-pub looked-near : (s : List ℕ) (i : ℕ) (d : List ℕ) (o : ℕ) (b d′ : List ℕ) (m k : ℕ) → Ahead (pairAt s) i m → k ≡ trailingZeros 64 m → k < 16 → i + 68 ≤ length s → o + 96 ≤ length d
+pub looked-near : (s : List ℕ) (i : ℕ) (d : List ℕ) (o : ℕ) (b d′ : List ℕ) (m k : ℕ) → Ahead (pairAt s) i m → k ≡ trailingZeros 64 m → k < 16 → i + 65 ≤ length s → o + 64 ≤ length d
     → b ≡ take 16 (drop i s) → d′ ≡ put d o b → Looked s i d o m d′
 looked-near s i d o b d′ m k a e h hs hd eb ed =
     let f = seen-first (pairAt s) i (a .places) m (a .seen) (a .most) (some-set m (omega arith)) in
@@ -117,7 +117,7 @@ spent s i j m a h = go (eqb m 0) refl
         let z : ⊥ = omega (arith, f .inside, a .most) in absurd z
 
 -- up to the next ED ED, k bytes on
-module _ (s d₀ d : List ℕ) (i o m₀ : ℕ) (g : Unpacking s d₀ d i o m₀) (d′ : List ℕ) (m k : ℕ) (l : Looked s i d o m d′) (e : k ≡ trailingZeros 64 m) (hd : o + 96 ≤ length d) where
+module _ (s d₀ d : List ℕ) (i o m₀ : ℕ) (g : Unpacking s d₀ d i o m₀) (d′ : List ℕ) (m k : ℕ) (l : Looked s i d o m d′) (e : k ≡ trailingZeros 64 m) (hd : o + 64 ≤ length d) where
   reached : Frame unpacked (unpacked s) s d₀ d′ (i + k) (o + k)
   reached = copied unpacked (unpacked s) s d₀ d i o (g .frame) d′ k (subst (λ (n : ℕ). Copied unpacked s i d o n d′) (sym e) (l .part)) (omega (arith, first-few m k e))
 

@@ -54,7 +54,7 @@ pub(crate) fn unpack_into(src: &[u8], dst: &mut [u8]) -> Unpacked
 // Flags for ED ED from i on: `seen`, while the next is near, or 64 new ones. The bytes of src before the next ED ED are
 // stored into dst from o on.
 fn look(src: &[u8], i: usize, dst: &mut [u8], o: usize, seen: u64) -> u64
-    requires { ⌜ (i + 68 ≤ length (now src)) × ((o + 96 ≤ length (now dst)) × Ahead (pairAt (now src)) i seen) ⌝ }
+    requires { ⌜ (i + 65 ≤ length (now src)) × ((o + 64 ≤ length (now dst)) × Ahead (pairAt (now src)) i seen) ⌝ }
     ensures { λ r. ⌜ Looked (now (src .entry)) i (now (dst .entry)) o r (now (dst .exit)) ⌝ }
 {
     if flags::first(seen) < 16 {
@@ -113,15 +113,15 @@ fn unpack_rest(src: &[u8], from: usize, dst: &mut [u8], at: usize) -> Unpacked
             if src.len() < i + 4 {
                 return Unpacked::Malformed;
             }
-            let n = slices::wide(src[i + 2]);
-            if n == 0 {
+            let count = slices::wide(src[i + 2]);
+            if count == 0 {
                 return Unpacked::Malformed;
             }
-            let e = o + n;
+            let e = o + count;
             if dst.len() < e {
                 return rest(src, i);
             }
-            stores::fill_run(dst, o, n, src[i + 3]);
+            stores::fill_run(dst, o, count, src[i + 3]);
             o = e;
             i += 4;
         } else {

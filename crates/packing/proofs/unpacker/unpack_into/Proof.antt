@@ -46,7 +46,8 @@ loop-less : tie.Need-loop-less Inv-loop μ-loop
 loop-less c = search needs
 
 loop-again : tie.Need-loop-again Inv-loop μ-loop
-loop-again c = search unpacking-block
+loop-again c =
+    unpacking-block _ _ _ _ _ _ (c .before .before .before .before .before .before .before .before .loop .inv) _ _ _ (c .before .before .before .before .look .ensures) (c .before .first .ensures .0) (search needs) (c .if2 .taken)
 
 add-p : tie.Need-add-p Inv-loop μ-loop
 add-p c = search needs
@@ -73,7 +74,10 @@ same-length-2 : tie.Need-same-length-2 Inv-loop μ-loop
 same-length-2 c = search needs
 
 returns-2 : tie.Need-returns-2 Inv-loop μ-loop
-returns-2 c = search unpacking-zero
+returns-2 c =
+    let g = c .before .before .before .before .before .before .before .before .before .before .before .before .loop .inv in
+    let l = c .before .before .before .before .before .before .before .before .look .ensures in
+    unpacking-zero _ _ _ _ _ _ g _ _ _ l (c .before .before .before .before .before .first .ensures .0) (search needs) _ (c .before .before .before .before .if2 .left) (search needs) (c .before .before .wide .ensures .0) (c .if3 .taken)
 
 fill-short-requires : tie.Need-fill-short-requires Inv-loop μ-loop
 fill-short-requires c κs = search needs
@@ -111,7 +115,10 @@ same-length-3 : tie.Need-same-length-3 Inv-loop μ-loop
 same-length-3 c = search needs
 
 returns-3 : tie.Need-returns-3 Inv-loop μ-loop
-returns-3 c = search unpacking-full
+returns-3 c =
+    let g = c .before .before .before .before .before .before .before .before .before .before .before .before .before .before .before .loop .inv in
+    let l = c .before .before .before .before .before .before .before .before .before .before .before .look .ensures in
+    unpacking-full _ _ _ _ _ _ g _ _ _ l (c .before .before .before .before .before .before .before .before .first .ensures .0) (search needs) _ (c .before .before .before .before .before .before .before .if2 .left) (search needs) (c .before .before .before .before .before .wide .ensures .0) _ (c .rest .ensures) (c .before .before .before .if3 .left) (c .before .if5 .taken)
 
 fill-run-requires : tie.Need-fill-run-requires Inv-loop μ-loop
 fill-run-requires c κs = search needs
