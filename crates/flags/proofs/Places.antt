@@ -14,7 +14,7 @@ use borrow.Author.Count.{below-more}
 use borrow.Author.Tests.{ltb-true, ltb-false}
 use Rattle.flags.specs.Weight.{weight}
 use Rattle.flags.specs.Places.{Flagged, Seen, First, Ahead}
-use Rattle.flags.proofs.Weights.{weight-join, weight-drop, none-set, Lowest, lowest}
+use Rattle.flags.proofs.Weights.{weight-join, weight-drop, none-set, lowest}
 
 -- flags set one by one
 pub flagged-none : (f : ℕ → Bool) → Flagged f (replicate 16 false) 0

@@ -131,24 +131,24 @@ all-clear [] n = refl
 all-clear (true ∷ bs) n = absurd (never (n 0 (omega arith)))
 all-clear (false ∷ bs) n = omega (arith, all-clear bs (λ j h. n (suc j) (suc-le-suc h)))
 
--- the flags looked at up to k: one is set, or none
-pub record Looked (c : List Bool) (t : Bool) (k : ℕ) : Type 0 where
+-- where t is false, none of the first k flags is set
+pub record NoneUpTo (c : List Bool) (t : Bool) (k : ℕ) : Type 0 where
   pub reach : k ≤ 16
   pub none : t ≡ false → (j : ℕ) → j < k → getD c j false ≡ false
 
-pub looked-none : (c : List Bool) → Looked c false 0
-looked-none c = record { reach = omega arith; none = λ e j h. absurd (not-suc-le-zero h) }
+pub none-start : (c : List Bool) → NoneUpTo c false 0
+none-start c = record { reach = omega arith; none = λ e j h. absurd (not-suc-le-zero h) }
 
 pub neither : (t u : Bool) → t || u ≡ false → (t ≡ false) × (u ≡ false)
 neither false u e = (refl, e)
 neither true u e = absurd (never e)
 
-pub looked-more : (c : List Bool) (t : Bool) (k : ℕ) → Looked c t k → k < 16 → Looked c (t || getD c k false) (k + 1)
-looked-more c t k g h =
+pub none-more : (c : List Bool) (t : Bool) (k : ℕ) → NoneUpTo c t k → k < 16 → NoneUpTo c (t || getD c k false) (k + 1)
+none-more c t k g h =
     record { reach = omega arith; none = λ e. (let p = neither t (getD c k false) e in below-more _ _ (g .none (p .0)) (p .1)) }
 
-pub looked-all : (c : List Bool) (t : Bool) (k : ℕ) → length c ≡ 16 → Looked c t k → 16 ≤ k → t ≡ false → weight c ≡ 0
-looked-all c t k l g h e = all-clear c (λ j i. g .none e j (omega arith))
+pub none-all : (c : List Bool) (t : Bool) (k : ℕ) → length c ≡ 16 → NoneUpTo c t k → 16 ≤ k → t ≡ false → weight c ≡ 0
+none-all c t k l g h e = all-clear c (λ j i. g .none e j (omega arith))
 
 -- the trailing zeros of the number are the flags before the first that is set
 pub record Lowest (bs : List Bool) (k : ℕ) : Type 0 where

@@ -1,7 +1,7 @@
 // Sixteen flags as a number, and the first one that is set. It knows no format.
 ghost use Prim.Native.Nat.{_≤_, _<_, _/_, _^_};
 ghost use mathlib.Core.Path.{_≡_};
-ghost use mathlib.Core.Bool.{true, false};
+ghost use mathlib.Core.Bool.{false};
 ghost use mathlib.Core.List.{_∷_, []};
 ghost use lib.Count.{trailingZeros};
 ghost use Rattle.flags.specs.Weight.{weight};

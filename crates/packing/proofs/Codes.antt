@@ -4,17 +4,17 @@ use native.Mathlib.Nat.{add-zero}
 use native.Mathlib.Omega.{arith}
 use mathlib.Core.Path.{_≡_, refl, sym, ap, subst, _∙_}
 use mathlib.Core.Bool.{Bool, true, false}
-use mathlib.Core.List.{List, [], _∷_, _++_, append-nil}
+use mathlib.Core.List.{List, _∷_, append-nil}
 use lib.ListN.{length, getD, take, drop, replicate}
 use lib.Dec.{eqb}
 use lib.Bits.{bitOr}
-use lib.Count.{trailingZeros, trailing-of-zero, trailing-le}
+use lib.Count.{trailingZeros, trailing-of-zero}
 use borrow.Author.Tests.{eqb-true, eqb-false}
 use Rattle.slices.specs.Put.{put}
 use Rattle.flags.specs.Weight.{weight}
 use Rattle.flags.specs.Places.{Flagged, Seen, Ahead}
 use Rattle.flags.proofs.Places.{seen-none, seen-flags, seen-join, seen-clear, seen-first, some-set, first-few, ahead-none, ahead-after}
-use Rattle.packing.specs.Packed.{Found, pair, before, unpacked}
+use Rattle.packing.specs.Packed.{pair, before, unpacked}
 use Rattle.packing.specs.Packed.Steps.{front-plain}
 use Rattle.packing.specs.Inner.{over, Into, Copied, pairAt, Copied16, Looked}
 use Rattle.stores.specs.Stored.{Stored}

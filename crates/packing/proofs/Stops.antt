@@ -1,9 +1,9 @@
 -- Packing: where a code may begin in 16 bytes, and the bytes before it.
-use Prim.Native.Nat.{ℕ, zero, suc, _+_, _-_, _/_, _^_, _≤_, _<_}
+use Prim.Native.Nat.{ℕ, _+_, _-_, _/_, _^_, _≤_, _<_}
 use native.Mathlib.Nat.{add-zero}
 use native.Mathlib.Omega.{arith}
 use mathlib.Core.Path.{_≡_, refl, sym, ap, subst, _∙_}
-use mathlib.Core.Bool.{Bool, true, false, not, _&&_}
+use mathlib.Core.Bool.{Bool, false, not, _&&_}
 use mathlib.Core.List.{List, _∷_}
 use lib.ListN.{length, getD, take, drop}
 use lib.Seq.{getD-drop}
@@ -12,7 +12,7 @@ use lib.Count.{trailingZeros}
 use borrow.Author.Tests.{eqb-false, eq-eqb}
 use Rattle.slices.specs.Put.{put}
 use Rattle.flags.specs.Weight.{weight}
-use Rattle.flags.specs.Places.{Flagged, Seen, Ahead}
+use Rattle.flags.specs.Places.{Flagged, Seen}
 use Rattle.flags.proofs.Weights.{never, neither}
 use Rattle.flags.proofs.Places.{seen-flags, seen-clear, seen-first, seen-after, ahead-none}
 use Rattle.packing.specs.Packed.{Found, bytes, front, packed}

@@ -1,8 +1,8 @@
 -- The contracts of the private functions: what one step of a loop leaves.
 use Prim.Native.Nat.{ℕ, suc, _+_, _-_, _≤_, _<_, min}
 use mathlib.Core.Path.{_≡_}
-use mathlib.Core.Bool.{Bool, true, false, not, _||_, _&&_}
-use mathlib.Core.List.{List, _++_}
+use mathlib.Core.Bool.{Bool, true, not, _||_, _&&_}
+use mathlib.Core.List.{List}
 use lib.Dec.{eqb}
 use lib.Count.{trailingZeros}
 use lib.ListN.{length, take, drop, getD}

@@ -4,7 +4,7 @@ mod packer;
 mod runs;
 mod unpacker;
 
-ghost use Prim.Native.Nat.{_+_, _≤_, _<_};
+ghost use Prim.Native.Nat.{_+_, _<_};
 ghost use mathlib.Core.Path.{_≡_};
 ghost use lib.ListN.{length};
 ghost use Rattle.packing.specs.Packed.{unpacked, packed};
