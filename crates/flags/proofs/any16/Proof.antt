@@ -23,7 +23,7 @@ loop-less : tie.Need-loop-less Inv-loop μ-loop
 loop-less c = search needs
 
 loop-again : tie.Need-loop-again Inv-loop μ-loop
-loop-again c = search none-more
+loop-again c = none-more _ _ _ (c .before .loop .inv) (search needs)
 
 returns : tie.Need-returns Inv-loop μ-loop
 returns c = none-all _ _ _ (search (needs, c .before .before .good .0)) (c .before .loop .inv) (search needs)

@@ -35,7 +35,7 @@ loop-less : tie.Need-loop-less Inv-loop μ-loop
 loop-less c = search needs
 
 loop-again : tie.Need-loop-again Inv-loop μ-loop
-loop-again c = search flagged-more
+loop-again c = flagged-more _ _ _ _ (c .before .before .loop .inv) (search needs) (c .is-pair .ensures)
 
 returns : tie.Need-returns Inv-loop μ-loop
 returns c = search flagged-all
