@@ -32,6 +32,9 @@ fn main() -> ExitCode {
     report.group("unpack with little room", |g| {
         unpack_groups::little_room(g, check)
     });
+    report.group("unpack at the edges of a look", |g| {
+        unpack_groups::looks(g, check)
+    });
     report.group("unpack packed pages", |g| {
         unpack_groups::pages(g, check, rng)
     });
@@ -43,6 +46,9 @@ fn main() -> ExitCode {
     });
     report.group("pack every run length", |g| {
         pack_groups::run_lengths(g, check)
+    });
+    report.group("pack at the edges of a look", |g| {
+        pack_groups::looks(g, check)
     });
     report.group("pack random runs", |g| {
         pack_groups::random_runs(g, check, rng)

@@ -31,6 +31,27 @@ pub fn run_lengths(group: &mut Group, check: &mut Checker) -> Outcome {
     Ok(())
 }
 
+/// Runs at every place of a look of 16 bytes, so that they end in it, at its end or after it, a single ED before
+/// every other one.
+pub fn looks(group: &mut Group, check: &mut Checker) -> Outcome {
+    for before in 0..40 {
+        for length in (0..24).chain([239, 240, 254, 255, 256]) {
+            for byte in [0x00, ED] {
+                for after in [0, 1, 3, 4, 15, 16, 20] {
+                    let mut src: Vec<u8> = (1..=before).collect();
+                    if let (Some(last), 1) = (src.last_mut(), length % 2) {
+                        *last = ED;
+                    }
+                    src.resize(src.len() + length, byte);
+                    src.extend(100..100 + after);
+                    check.pack(group, &src, &[usize::from(before) + 9])?;
+                }
+            }
+        }
+    }
+    Ok(())
+}
+
 pub fn random_runs(group: &mut Group, check: &mut Checker, rng: &mut Rng) -> Outcome {
     for case in 0..220_000 {
         let (most, longest) = match case % 50 {
