@@ -68,7 +68,7 @@ mayCode x y z = eqb x ED || (eqb x y && eqb z y)
 abbrev pub packedAs : List ℕ → Found
 packedAs xs = bytes (packed xs)
 
--- k bytes of s from i on are copied, all 16 or up to where a code may begin; u flags, from there on, bytes unlike the next
+-- k bytes of s from i on, at most 16, pack to themselves and are copied; u flags, from there on, bytes unlike the next
 pub record Stopped (s : List ℕ) (i : ℕ) (d₀ : List ℕ) (o k u : ℕ) (d : List ℕ) : Type 0 where
   pub few : k ≤ 16
   pub part : Copied packedAs s i d₀ o k d

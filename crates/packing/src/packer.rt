@@ -19,8 +19,8 @@ struct Stop {
     unlike: u64,
 }
 
-// The loop, while there is much of both: 16 bytes at a time up to where a code may begin. Where the answer is a length, dst
-// begins with src packed.
+// The loop, while there is much of both: 16 bytes at a time up to where a code may begin, seen by 4 bytes more, and 4 bytes
+// for the code. Where the answer is a length, dst begins with src packed.
 pub(crate) fn pack_into(src: &[u8], dst: &mut [u8]) -> Fit
     ensures { λ r. ⌜ PackedInto (packed (now (src .entry))) (now (dst .entry)) r (now (dst .exit)) ⌝ }
 {

@@ -7,7 +7,8 @@ ghost use Rattle.flags.specs.Places.{Flagged, Ahead};
 ghost use Rattle.packing.specs.Packed.{pair, before, unpacked};
 ghost use Rattle.packing.specs.Inner.{over, Into, pairAt, Looked, Copied16};
 
-// The loop, while there is much of both. Where the answer is Good, dst holds what src stands for.
+// The loop, while there is much of both: a look reads 65 bytes and the last code in it three more, and it stores 64 and a
+// short run 32 after the first 63. Where the answer is Good, dst holds what src stands for.
 pub(crate) fn unpack_into(src: &[u8], dst: &mut [u8]) -> Unpacked
     ensures { λ r. ⌜ Into (unpacked (now (src .entry))) (now (dst .entry)) r (now (dst .exit)) ⌝ }
 {
