@@ -1,11 +1,11 @@
 # Reads `objdump -d --no-show-raw-insn -M intel` and prints a line for each loop that makes a mask of 16 bytes: its function,
-# and how many of its instructions are masks, 16-byte compares, loads and stores, and loads of single bytes.
+# and how many of its instructions are masks, 16-byte compares, loads and stores, and accesses to single bytes.
 function number(hex,   i, n) {
     for (i = 1; i <= length(hex); i++) n = n * 16 + index("0123456789abcdef", substr(hex, i, 1)) - 1
     return n
 }
 
-# The shortest way back over instruction i, as its first and last instruction.
+# The jump that ends the shortest way back over instruction i; 0 where there is none.
 function around(i,   j, t, best) {
     best = 0
     for (j = i; j <= count; j++) {
@@ -26,7 +26,7 @@ function told(last,   i, masks, compares, loads, stores, bytes) {
     printf "%s: masks %d, compares %d, loads %d, stores %d, bytes %d\n", name, masks, compares, loads, stores, bytes
 }
 
-function finish(   i, at, j, to) {
+function finish(   i, j, to, word) {
     for (i = 1; i <= count; i++)
         if (text[i] ~ /^j[a-z]+ +[0-9a-f]+ /) {
             split(text[i], word, " +")
