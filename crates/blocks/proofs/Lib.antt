@@ -3,3 +3,4 @@ pub mod Answers
 pub mod Heads
 pub mod Turns
 pub mod Bodies
+pub mod Moves

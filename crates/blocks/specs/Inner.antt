@@ -2,8 +2,8 @@
 use Prim.Native.Nat.{ℕ, _-_, _*_, _<_, _≤_}
 use mathlib.Core.Path.{_≡_}
 use mathlib.Core.Bool.{Bool}
-use mathlib.Core.List.{List}
-use lib.ListN.{length, take, drop}
+use mathlib.Core.List.{List, _++_}
+use lib.ListN.{length, take, drop, replicate}
 use Rattle.slices.specs.Put.{put}
 use Rattle.packing.specs.Unpacking.{answerOf, leftBy}
 use Rattle.packing.specs.declared.Unpacked.{Unpacked}
@@ -50,6 +50,14 @@ pub record Brings (model : Model) (seen : List Bool) (file : List ℕ) (at : ℕ
 abbrev pub StepSays : Model → List Bool → List ℕ → ℕ → List ℕ → List ℕ → Step → Type 0
 StepSays model seen file at before after (Stop why) = Refuses model seen file at why
 StepSays model seen file at before after (Next page next) = Brings model seen file at before after page next
+
+-- the page at `from` also at `to`
+abbrev pub moved : List ℕ → ℕ → ℕ → List ℕ
+moved area from to = put area to (take 16384 (drop from area))
+
+-- page 6 at 2 and page 7 at 0, and zeros in their places
+unfoldable pub settled : List ℕ → List ℕ
+settled area = let a = moved (moved area 98304 32768) 114688 0 in take 98304 a ++ replicate (length a - 98304) 0
 
 -- a reading's answer and, where it is accepted, its area; refused, the area is free
 abbrev pub Tells : Reading → Answer → List ℕ → Type 0

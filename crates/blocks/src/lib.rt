@@ -8,10 +8,11 @@ ghost use Prim.Native.Nat.{_+_, _*_, _≤_, _<_};
 ghost use mathlib.Core.Path.{_≡_};
 ghost use lib.ListN.{length, take, drop};
 ghost use Rattle.slices.specs.Put.{put};
+ghost use Rattle.slices.specs.Blank.{blank};
 ghost use Rattle.packing.specs.Packed.{unpacked};
 ghost use Rattle.blocks.specs.Blocks.{pageOf, allThere, sizeOf, blocksInto};
 ghost use Rattle.blocks.specs.Body.{marked, spread, spreadFrom, bodyInto};
-ghost use Rattle.blocks.specs.Inner.{Fills, HeadSays, StepSays, Tells};
+ghost use Rattle.blocks.specs.Inner.{Fills, HeadSays, StepSays, moved, settled, Tells};
 
 pub enum Page {
     At(usize),
@@ -209,16 +210,38 @@ fn spread_out(body: &[u8], area: &mut [u8])
     move_page(body, 32768, area, 0);
 }
 
-// A packed v1 stream without its marker. Refused, the area is as it was.
-fn unpack_body(src: &[u8], area: &mut [u8]) -> Answer
+// The page that stands at `from`, also at `to`, a page or more before it.
+fn move_down(area: &mut [u8], from: usize, to: usize)
+    requires { ⌜ (to + 16384 ≤ from) × (from + 16384 ≤ length (now area)) ⌝ }
+    ensures { λ _. ⌜ now (area .exit) ≡ moved (now (area .entry)) from to ⌝ }
+{
+    let mut k: usize = 0;
+    while k < 16384 {
+        area[to + k] = area[from + k];
+        k += 1;
+    }
+}
+
+// Page 6 moved to page 2 and 7 to 0, and zeros in their places.
+fn settle(area: &mut [u8])
     requires { ⌜ length (now area) ≡ 131072 ⌝ }
+    ensures { λ _. ⌜ now (area .exit) ≡ settled (now (area .entry)) ⌝ }
+{
+    move_down(area, 98304, 32768);
+    move_down(area, 114688, 0);
+    slices::clear_from(area, 98304);
+}
+
+// A packed v1 stream without its marker, into an area of zeros: unpacked into pages 5, 6 and 7, which lie in a row, so that no
+// other memory is needed. Refused, the area is open.
+fn unpack_body(src: &[u8], area: &mut [u8]) -> Answer
+    requires { ⌜ (length (now area) ≡ 131072) × (now area ≡ blank 131072) ⌝ }
     ensures { λ r. ⌜ Tells (spreadFrom (unpacked (now (src .entry))) (now (area .entry))) r (now (area .exit)) ⌝ }
 {
-    let mut body = [0u8; 49152];
-    let answer = packing::unpack(src, &mut body);
+    let answer = packing::unpack(src, &mut area[81920..]);
     match answer {
         Unpacked::Good => {
-            spread_out(&body, area);
+            settle(area);
             return Answer::Accepted;
         }
         Unpacked::Malformed => return Answer::Refused(Refusal::MalformedData),
@@ -226,9 +249,9 @@ fn unpack_body(src: &[u8], area: &mut [u8]) -> Answer
     }
 }
 
-// A v1 body from a place to the end of the file. Refused, the area is open: the caller clears it.
+// A v1 body from a place to the end of the file, into an area of zeros. Refused, the area is open: the caller clears it.
 pub fn read_body(file: &[u8], from: usize, packed: bool, area: &mut [u8]) -> Answer
-    requires { ⌜ (from ≤ length (now file)) × (length (now area) ≡ 131072) ⌝ }
+    requires { ⌜ (from ≤ length (now file)) × ((length (now area) ≡ 131072) × (now area ≡ blank 131072)) ⌝ }
     ensures { λ r. ⌜ Tells (bodyInto packed (now (area .entry)) (drop from (now (file .entry)))) r (now (area .exit)) ⌝ }
 {
     let body = &file[from..];

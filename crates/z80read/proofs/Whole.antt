@@ -106,7 +106,7 @@ module _ (s before clear : List ℕ) (c₀ : clear ≡ take 0 before ++ replicat
     pub read-refused : (why : Refusal) (r : Opened) → head ≡ Head.Refused why → r ≡ refusedOpened why → Reads (readOf s (length before)) r clear
     read-refused why r e q = refused _ why r q (sym opened ∙ ap (λ (x : Head). afterHead x s (length before)) e)
 
-    is-blank : clear ≡ blank 131072
+    pub is-blank : clear ≡ blank 131072
     unfolding blank
     is-blank = c ∙ ap (λ (k : ℕ). replicate k 0) (sym long ∙ h)
 

@@ -9,6 +9,7 @@ use spectrum::Refusal;
 ghost use Prim.Native.Nat.{_≤_};
 ghost use mathlib.Core.Path.{_≡_};
 ghost use lib.ListN.{length};
+ghost use Rattle.slices.specs.Blank.{blank};
 ghost use Rattle.spectrum.specs.declared.Answer.the-variants.{Accepted};
 ghost use Rattle.header.specs.Reading.{headerLength, machineOf};
 ghost use Rattle.header.specs.Inner.{Readable};
@@ -48,7 +49,7 @@ fn read_on(
     attachment: Attachment,
     area: &mut [u8],
 ) -> Opened
-    requires { ⌜ (Readable version model (now file)) × (length (now area) ≡ 131072) ⌝ }
+    requires { ⌜ (Readable version model (now file)) × ((length (now area) ≡ 131072) × (now area ≡ blank 131072)) ⌝ }
     ensures { λ r. ⌜ Leaves (outcomeOf (memoryInto version model (now (area .entry)) (now (file .entry))) (machineOf version model attachment (now (file .entry))) (length (now (area .entry)))) r (now (area .exit)) ⌝ }
 {
     let answer = read_memory(file, version, model, area);
@@ -64,9 +65,9 @@ fn read_on(
     }
 }
 
-// What follows the header, into the area. Refused, the area is open.
+// What follows the header, into an area of zeros. Refused, the area is open.
 fn read_memory(file: &[u8], version: Version, model: Model, area: &mut [u8]) -> Answer
-    requires { ⌜ (headerLength version ≤ length (now file)) × (length (now area) ≡ 131072) ⌝ }
+    requires { ⌜ (headerLength version ≤ length (now file)) × ((length (now area) ≡ 131072) × (now area ≡ blank 131072)) ⌝ }
     ensures { λ r. ⌜ Tells (memoryInto version model (now (area .entry)) (now (file .entry))) r (now (area .exit)) ⌝ }
 {
     match version {

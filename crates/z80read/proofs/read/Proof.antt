@@ -1,4 +1,4 @@
-use Rattle.z80read.proofs.Whole.{read-length, read-refused, read-readable, read-on}
+use Rattle.z80read.proofs.Whole.{read-length, read-refused, read-readable, is-blank, read-on}
 use borrow.Author.Needs.{needs}
 use Rattle.z80read.proofs.read.Statement.{statement}
 use Rattle.z80read.proofs.read.Tie as tie
@@ -34,7 +34,7 @@ enum-known-head-2 : tie.Need-enum-known-head-2
 enum-known-head-2 c = search needs
 
 read-on-requires : tie.Need-read-on-requires
-read-on-requires c κs = (search read-readable, search needs)
+read-on-requires c κs = (search read-readable, (search needs, search is-blank))
 
 same-length-3 : tie.Need-same-length-3
 same-length-3 c = search needs
