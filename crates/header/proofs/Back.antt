@@ -14,8 +14,9 @@ use Rattle.spectrum.specs.declared.Video.{Video}
 use Rattle.spectrum.specs.declared.Video.the-variants.{Normal, High, Low}
 use Rattle.spectrum.specs.declared.Model.{Model}
 use Rattle.spectrum.specs.declared.Model.the-variants.{K48, K128}
-use Rattle.spectrum.specs.Clock.{quarter, clockEnd, positionOf, lowOf, highOf}
+use Rattle.spectrum.specs.Clock.{positionOf, lowOf, highOf}
 use Rattle.spectrum.specs.Valid.{Typed, Valid}
+use Rattle.spectrum.proofs.Clock.{position-back}
 use Rattle.header.specs.declared.Version.the-variants.{V3}
 use Rattle.header.specs.Bytes.{at, wordAt, bitAt, bitOf}
 use Rattle.header.specs.Reading.{pairsBefore, pairsOf, videoOf, switchesOf, carried, soundOf, machineOf}
@@ -70,15 +71,6 @@ is-video Low = refl
 low-small : (k : Model) (p : ℕ) → lowOf k p < 65536
 low-small K48 p = omega arith
 low-small K128 p = omega arith
-
--- the counters give the frame position back, and it gives them back
-pub position-back : (k : Model) (p : ℕ) → p < clockEnd k → positionOf k (lowOf k p) (highOf k p) ≡ p
-position-back K48 p h = omega arith
-position-back K128 p h = omega arith
-
-pub counters-back : (k : Model) (low high : ℕ) → low < quarter k → high < 4 → (lowOf k (positionOf k low high) ≡ low) × (highOf k (positionOf k low high) ≡ high)
-counters-back K48 low high h g = (omega arith, omega arith)
-counters-back K128 low high h g = (omega arith, omega arith)
 
 -- the n elements of l from i on
 abbrev span : ℕ → ℕ → List ℕ → List ℕ

@@ -1,12 +1,12 @@
 -- The test for header bytes: at each return of the code, and what it means.
-use Prim.Native.Nat.{ℕ}
+use Prim.Native.Nat.{ℕ, _<_}
 use native.Mathlib.Omega.{arith}
-use mathlib.Core.Path.{_≡_, refl, sym, ap, _∙_}
+use mathlib.Core.Path.{_≡_, refl, sym, ap, subst, _∙_}
 use mathlib.Core.Bool.{Bool, true, false}
 use mathlib.Core.List.{List, [], _++_, append-nil}
-use lib.ListN.{length, drop, drop-of-length-le}
+use lib.ListN.{length, getD, drop, drop-of-length-le}
 use lib.Dec.{eqb}
-use borrow.Author.Tests.{eq-eqb, ne-eqb}
+use borrow.Author.Tests.{eqb-true, eq-eqb, ne-eqb}
 use Rattle.slices.specs.Choose.{choose, both}
 use Rattle.slices.specs.Same.{same}
 use Rattle.slices.proofs.Chosen.{both-true, same-refl, same-true}
@@ -14,19 +14,20 @@ use Rattle.spectrum.specs.declared.Machine.{Machine}
 use Rattle.spectrum.specs.declared.Model.{Model}
 use Rattle.spectrum.specs.declared.Attachment.{Attachment}
 use Rattle.spectrum.specs.Valid.{Typed, Valid, validOf}
-use Rattle.spectrum.proofs.Validity.{valid-true}
+use Rattle.spectrum.proofs.Validity.{valid-says, valid-true}
 use Rattle.header.specs.declared.Version.the-variants.{V3}
 use Rattle.header.specs.declared.Mode.{Mode}
 use Rattle.header.specs.declared.Mode.the-variants.{Carried, NotCarried}
 use Rattle.header.specs.declared.Taken.{Taken}
 use Rattle.header.specs.Bytes.{at}
 use Rattle.header.specs.Reading.{machineOf}
-use Rattle.header.specs.Writing.{headerOf}
+use Rattle.header.specs.Writing.{headerOf, HeaderFor}
 use Rattle.header.specs.Heads.{mode3, notTaken, takenAs, takenMode, takenOf}
 use Rattle.header.specs.Inner.{Readable}
 use Rattle.header.proofs.WriteSteps.{header-length}
 use Rattle.header.proofs.Back.{machine-back}
 use Rattle.header.proofs.Opened.{mode-back}
+use Rattle.header.proofs.Typed.{machine-typed}
 
 pub taken-length : (s : List ℕ) (r : Taken) → (length s ≡ 86 → ⊥) → r ≡ notTaken → r ≡ takenOf s
 unfolding takenOf
@@ -64,32 +65,56 @@ mode-is : (m : Machine) → Carried (m .model) (m .attachment) ≡ mode3 (at (he
 unfolding headerOf
 mode-is m = sym (mode-back (m .model) (m .attachment))
 
--- a valid machine's header is taken as that machine
-pub taken-back : (m : Machine) → Typed m → Valid m → takenOf (headerOf m) ≡ record { canonical = true; machine = m }
+taken-back : (m : Machine) → Typed m → Valid m → takenOf (headerOf m) ≡ record { canonical = true; machine = m }
 taken-back m t v =
     let nil : headerOf m ++ [] ≡ headerOf m = append-nil (headerOf m) in
     let b : machineOf V3 (m .model) (m .attachment) (headerOf m) ≡ m = ap (machineOf V3 (m .model) (m .attachment)) (sym nil) ∙ machine-back m [] t v in
     sym (taken-mode (headerOf m) (Carried (m .model) (m .attachment)) (header-length m t) (mode-is m) (m .model) (m .attachment) _ refl
     (taken-good _ m (headerOf m) true (sym b) (sym (valid-true m v)) true (sym (same-refl (headerOf m))) refl refl))
 
--- header bytes that are taken are the header of the machine that they are taken as, and it is valid
-pub taken-is : (s : List ℕ) → takenOf s .canonical ≡ true → (headerOf (takenOf s .machine) ≡ s) × (validOf (takenOf s .machine) ≡ true)
+-- what bytes are taken as, where they are taken
+record Took (s : List ℕ) (t : Taken) : Type 0 where
+  model : Model
+  attachment : Attachment
+  long : length s ≡ 86
+  is : t .machine ≡ machineOf V3 model attachment s
+  good : both (validOf (t .machine)) (same s (headerOf (t .machine))) ≡ true
+
+never : false ≡ true → ⊥
+never e = let z : _≡_ {A = ℕ} 0 1 = cc in omega arith
+
+took : (s : List ℕ) → takenOf s .canonical ≡ true → Took s (takenOf s)
 unfolding takenOf
-taken-is s h = go (eqb (length s) 86) (mode3 (at s 34)) h
+took s h = go (eqb (length s) 86) refl (mode3 (at s 34)) h
   where
-    never : false ≡ true → ⊥
-    never e = let z : _≡_ {A = ℕ} 0 1 = cc in omega arith
+    valid : length s ≡ 86 → (k : Model) (a : Attachment) (m : Machine) (t : Bool) → both (validOf m) (same s (headerOf m)) ≡ t → m ≡ machineOf V3 k a s
+        → choose t (record { canonical = true; machine = m }) notTaken .canonical ≡ true → Took s (choose t (record { canonical = true; machine = m }) notTaken)
+    valid l k a m true e q c = record { model = k; attachment = a; long = l; is = q; good = e }
+    valid l k a m false e q c = absurd (never c)
 
-    valid : (m : Machine) (t : Bool) → both (validOf m) (same s (headerOf m)) ≡ t → choose t (record { canonical = true; machine = m }) notTaken .canonical ≡ true
-        → (headerOf (choose t (record { canonical = true; machine = m }) notTaken .machine) ≡ s) × (validOf (choose t (record { canonical = true; machine = m }) notTaken .machine) ≡ true)
-    valid m true e k = let p = both-true _ _ e in (sym (same-true s (headerOf m) (p .1)), p .0)
-    valid m false e k = absurd (never k)
+    mode : length s ≡ 86 → (f : Mode) → takenMode f s .canonical ≡ true → Took s (takenMode f s)
+    mode l NotCarried c = absurd (never c)
+    mode l (Carried k a) c = valid l k a (machineOf V3 k a s) _ refl refl c
 
-    mode : (f : Mode) → takenMode f s .canonical ≡ true → (headerOf (takenMode f s .machine) ≡ s) × (validOf (takenMode f s .machine) ≡ true)
-    mode NotCarried k = absurd (never k)
-    mode (Carried model a) k = valid (machineOf V3 model a s) _ refl k
+    go : (t : Bool) → eqb (length s) 86 ≡ t → (f : Mode) → choose t (takenMode f s) notTaken .canonical ≡ true → Took s (choose t (takenMode f s) notTaken)
+    go true e f c = mode (eqb-true (length s) 86 e) f c
+    go false e f c = absurd (never c)
 
-    go : (t : Bool) (f : Mode) → choose t (takenMode f s) notTaken .canonical ≡ true
-        → (headerOf (choose t (takenMode f s) notTaken .machine) ≡ s) × (validOf (choose t (takenMode f s) notTaken .machine) ≡ true)
-    go true f k = mode f k
-    go false f k = absurd (never k)
+-- bytes that are taken are the header of the machine that they are taken as, and it is valid
+pub taken-is : (s : List ℕ) → ((i : ℕ) → getD s i 0 < 256) → takenOf s .canonical ≡ true → HeaderFor (takenOf s .machine) s
+taken-is s h c =
+    let t = took s c in
+    let p = both-true _ _ (t .good) in
+    record {
+      valid = p .0;
+      typed = subst Typed (sym (t .is)) (machine-typed s h V3 (t .model) (t .attachment) (readable-86 (t .model) s (t .long)));
+      is = same-true s _ (p .1);
+    }
+
+-- a valid machine's header is taken as that machine
+pub header-taken : (m : Machine) (s : List ℕ) → HeaderFor m s → takenOf s ≡ record { canonical = true; machine = m }
+header-taken m s f = ap takenOf (f .is) ∙ taken-back m (f .typed) (valid-says m (f .typed .sound) (f .valid))
+
+-- two machines do not share a header
+pub one-machine : (m n : Machine) (s : List ℕ) → HeaderFor m s → HeaderFor n s → m ≡ n
+one-machine m n s f g = ap (λ (t : Taken). t .machine) (sym (header-taken m s f) ∙ header-taken n s g)

@@ -3,3 +3,4 @@ pub mod Reading
 pub mod Writing
 pub mod Heads
 pub mod Inner
+pub mod Theorems

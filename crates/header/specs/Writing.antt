@@ -1,6 +1,7 @@
 -- The 86 header bytes that the writer makes for a machine: the v3 header.
 use Prim.Native.Nat.{ℕ, _+_, _*_, _/_, _%_}
-use mathlib.Core.Bool.{Bool}
+use mathlib.Core.Path.{_≡_}
+use mathlib.Core.Bool.{Bool, true}
 use mathlib.Core.List.{List, [], _∷_, _++_}
 use lib.ListN.{getD}
 use Rattle.spectrum.specs.declared.Machine.{Machine}
@@ -12,6 +13,7 @@ use Rattle.spectrum.specs.declared.Model.the-variants.{K48, K128}
 use Rattle.spectrum.specs.declared.Attachment.{Attachment}
 use Rattle.spectrum.specs.declared.Attachment.the-variants.{Nothing, InterfaceI, Mgt}
 use Rattle.spectrum.specs.Clock.{lowOf, highOf}
+use Rattle.spectrum.specs.Valid.{Typed, validOf}
 use Rattle.header.specs.Bytes.{lowByte, highByte, bitOf}
 
 -- bytes 0 to 26; PC is 0 here. "The rest of 11 and 12 is written 0."
@@ -74,3 +76,9 @@ headerOf m =
     registerBytes (m .pairs) (m .i) (m .r) (m .switches .border)
     ++ (switchBytes (m .switches) (getD (m .pairs) 11 0)
     ++ (portBytes m ++ (m .sound ++ (counterBytes (m .model) (m .position) (m .side59) ++ m .side))))
+
+-- "the 86-byte v3 header that our writer makes for it": head is the header of m, which is valid and as the types of the code say
+pub record HeaderFor (m : Machine) (head : List ℕ) : Type 0 where
+  pub valid : validOf m ≡ true
+  pub typed : Typed m
+  pub is : head ≡ headerOf m

@@ -28,7 +28,8 @@ use Rattle.journal.specs.declared.Call.{Call}
 use Rattle.journal.specs.declared.Call.the-variants.{Byte, Pair, Out, Undo, Redo}
 use Rattle.journal.specs.Model.{Correction, byteAt, pairTo, outTo, placeIn, store, make, romFirst, outFirst, room, refusal}
 use Rattle.journal.specs.Steps.{capacity, putStep, stepAt, step, byteStep, stepFor, present, placed, intact}
-use Rattle.journal.specs.Journal.{Desk, Did, deskOn, didOf, andThen, soundness, sound, corrected, byteMade, moved, journalCorrect, journalUndo, journalRedo, journalCall, Ready}
+use Rattle.journal.specs.Journal.{Desk, Did, deskOn, didOf, andThen, soundness, sound, corrected, moved, journalCorrect, journalUndo, journalRedo, journalCall}
+use Rattle.journal.specs.Inner.{byteMade, Ready}
 use Rattle.journal.proofs.Held.{refuse-not, not-flip, place-inside}
 use Rattle.journal.proofs.Leaves.{on}
 

@@ -1,6 +1,6 @@
 -- After every list of calls the desk is the model's: by induction, from a relation that each call keeps.
 use Prim.Native.Nat.{ℕ, suc, _+_, _-_, _*_, _≤_, _<_}
-use mathlib.Core.Path.{_≡_, refl, ap, _∙_}
+use mathlib.Core.Path.{_≡_, refl, sym, ap, subst, _∙_}
 use mathlib.Core.Bool.{true}
 use mathlib.Core.List.{List, [], _∷_}
 use native.Mathlib.Omega.{arith}
@@ -16,7 +16,7 @@ use Rattle.journal.specs.declared.Call.the-variants.{Byte, Pair, Out, Un
 use Rattle.journal.specs.Model.{World, Correction, byteAt, pairTo, outTo, make, made, refusal, Bench, Turn, joins, modelCorrect, modelUndo, modelRedo, modelCall, emptyBench, modelAfter, modelAnswers}
 use Rattle.journal.specs.Steps.{capacity, putStep, stepFor, present, placed, intact}
 use Rattle.journal.specs.Journal.{Desk, Did, soundness, sound, moved, corrected, journalCorrect, journalUndo, journalRedo, journalCall}
-use Rattle.journal.specs.Claim.{Fit, Wide, WideCall, WideCalls, runAfter, runAnswers, Claim}
+use Rattle.journal.specs.Claim.{Fit, Wide, WideCall, WideCalls, started, runAfter, runAnswers, ClaimOf}
 use Rattle.journal.proofs.Log.{stepAt-below, capacity-putStep, room-in-log}
 use Rattle.journal.proofs.Held.{Held, held, refusal-room}
 
@@ -161,28 +161,38 @@ module _ (start : World) (cap : ℕ) where
   -- what holds after a list of calls
   record Told (calls : List Call) (log : List ℕ) (b : Bench) : Type 0 where
     last : List ℕ
+    fit : Fit (made start (modelAfter start cap b calls .applied))
     desk : runAfter journalCall (deskOf start log b) calls ≡ deskOf start last (modelAfter start cap b calls)
     answers : runAnswers journalCall (deskOf start log b) calls ≡ modelAnswers start cap b calls
 
   calls-agree : (calls : List Call) (log : List ℕ) (b : Bench) → WideCalls calls → Kept start cap log b → Told calls log b
-  calls-agree [] log b wide k = record { last = log; desk = refl; answers = refl }
+  calls-agree [] log b wide k = record { last = log; fit = k .fit; desk = refl; answers = refl }
   calls-agree (c ∷ cs) log b wide k =
       let a = call-agrees c log b (wide .0) k in
       let t = calls-agree cs (a .log) (modelCall start cap b c .bench) (wide .1) (a .kept) in
       record {
         last = t .last;
+        fit = t .fit;
         desk = ap (λ (x : Did). runAfter journalCall (x .desk) cs) (a .same) ∙ t .desk;
         answers = ap (λ (x : Did). x .answer ∷ runAnswers journalCall (x .desk) cs) (a .same) ∙ ap (λ (l : List Answer). modelCall start cap b c .answer ∷ l) (t .answers);
       }
 
+  told : (log : List ℕ) → capacity log ≡ cap → Fit start → (calls : List Call) → WideCalls calls → Told calls log emptyBench
+  told log e ok calls wide = calls-agree calls log emptyBench wide (record { capped = e; bound = omega arith; fit = ok; past = tt; future = tt })
+
 -- THE CLAIM
-pub claim : (start : World) (log : List ℕ) → Fit start → (calls : List Call) → WideCalls calls → Claim journalCall start log calls
+pub claim : ClaimOf journalCall
 claim start log ok calls wide =
-    let cap = capacity log in
-    let t = calls-agree start cap calls log emptyBench wide (record { capped = refl; bound = omega arith; fit = ok; past = tt; future = tt }) in
+    let t = told start (capacity log) log refl ok calls wide in
     record {
       world = ap (λ (d : Desk). d .world) (t .desk);
       standing = ap (λ (d : Desk). d .standing) (t .desk);
       total = ap (λ (d : Desk). d .total) (t .desk);
       answers = t .answers;
     }
+
+-- what a list of calls leaves is a start again
+pub fit-after : (start : World) (log : List ℕ) → Fit start → (calls : List Call) → WideCalls calls → Fit (runAfter journalCall (started start log) calls .world)
+fit-after start log ok calls wide =
+    let t = told start (capacity log) log refl ok calls wide in
+    subst (λ (d : Desk). Fit (d .world)) (sym (t .desk)) (t .fit)

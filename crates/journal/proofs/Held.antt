@@ -22,6 +22,7 @@ use Rattle.spectrum.specs.Machine.{withPair, withOut}
 use Rattle.spectrum.specs.Pages.{owned, topPage, placeOf}
 use Rattle.spectrum.specs.Valid.{validOf, quietOf}
 use Rattle.spectrum.proofs.Places.{owned-all}
+use Rattle.spectrum.proofs.Numbers.{refused-not}
 use Rattle.journal.specs.declared.Step.{Step}
 use Rattle.journal.specs.Model.{World, Correction, byteAt, pairTo, outTo, placeIn, store, make, refuse, romFirst, outFirst, room, refusal}
 use Rattle.journal.specs.Steps.{putStep, stepAt, step, byteStep, stepFor, present, placed, intact}
@@ -44,11 +45,8 @@ pub record Holds (log : List ℕ) (k : ℕ) (s : Step) (w w′ : World) : Type 0
 abbrev pub Held : List ℕ → ℕ → Correction → World → Type 0
 Held log k c w = Holds log k (stepFor c w) w (make c w)
 
-pub never : (w : Refusal) → Refused w ≡ Accepted → ⊥
-never w p = let z : _≡_ {A = ℕ} 0 1 = cc in omega arith
-
 pub refuse-not : (t : Bool) (w : Refusal) (a : Answer) → refuse t w a ≡ Accepted → (t ≡ false) × (a ≡ Accepted)
-refuse-not true w a e = absurd (never w e)
+refuse-not true w a e = absurd (refused-not w e)
 refuse-not false w a e = (refl, e)
 
 pub not-flip : (t : Bool) → not t ≡ false → t ≡ true
@@ -59,7 +57,7 @@ has-room : (cap n : ℕ) → room cap n ≡ Accepted → n < cap
 has-room cap n e = ltb-true n cap (not-flip (ltb n cap) (refuse-not (not (ltb n cap)) JournalFull Accepted e .0))
 
 out-128 : (k : Model) (out : ℕ) (a : Answer) → outFirst k out a ≡ Accepted → (k ≡ K128) × (a ≡ Accepted)
-out-128 K48 out a e = absurd (never OutOn48k e)
+out-128 K48 out a e = absurd (refused-not OutOn48k e)
 out-128 K128 out a e = (refl, refuse-not (eqb (out / 32 % 2) 1) PagingLocked a e .1)
 
 -- a place of the RAM is inside a page that the machine owns
@@ -92,12 +90,12 @@ place-inside k out a page offset h e = go (ltb a 0x4000) (ltb a 0x8000) (ltb a 0
     go false false true ex ey ez q = same 2 (a - 0x8000) (five-two k (a - 0x8000) (omega (arith, ltb-true a 0xC000 ez)) .1) q
     go false false false ex ey ez q = same (topPage k out) (a - 0xC000) (top-inside k out (a - 0xC000) (omega arith)) q
 
-bytes-set : (l : List ℕ) (i v : ℕ) → ((j : ℕ) → getD l j 0 < 256) → v < 256 → (j : ℕ) → getD (set l i v) j 0 < 256
-bytes-set [] i v h b j = h j
-bytes-set (x ∷ xs) zero v h b zero = b
-bytes-set (x ∷ xs) zero v h b (suc j) = h (suc j)
-bytes-set (x ∷ xs) (suc i) v h b zero = h zero
-bytes-set (x ∷ xs) (suc i) v h b (suc j) = bytes-set xs i v (λ k. h (suc k)) b j
+below-set : (n : ℕ) (l : List ℕ) (i v : ℕ) → ((j : ℕ) → getD l j 0 < n) → v < n → (j : ℕ) → getD (set l i v) j 0 < n
+below-set n [] i v h b j = h j
+below-set n (x ∷ xs) zero v h b zero = b
+below-set n (x ∷ xs) zero v h b (suc j) = h (suc j)
+below-set n (x ∷ xs) (suc i) v h b zero = h zero
+below-set n (x ∷ xs) (suc i) v h b (suc j) = below-set n xs i v (λ k. h (suc k)) b j
 
 byte-mod : (x : ℕ) → x < 256 → x % 256 ≡ x
 byte-mod x h = omega arith
@@ -156,14 +154,34 @@ out-there : (m : Machine) (v : ℕ) → withOut m v .out7ffd ≡ v
 unfolding withOut
 out-there m v = refl
 
-pair-fit : (w : World) (p v : ℕ) → Fit w → Fit (record { machine = withPair (w .machine) p v; memory = w .memory })
+pair-fit : (w : World) (p v : ℕ) → Fit w → v < 65536 → Fit (record { machine = withPair (w .machine) p v; memory = w .memory })
 unfolding withPair
-pair-fit w p v ok =
-    record { valid = pair-valid (w .machine) p v ∙ ok .valid; area = ok .area; bytes = ok .bytes; out = ok .out; count = length-set (w .machine .pairs) p v ∙ ok .count }
+pair-fit w p v ok b =
+    let t = ok .typed in
+    record {
+      valid = pair-valid (w .machine) p v ∙ ok .valid;
+      area = ok .area;
+      typed = record {
+        pairs = below-set 65536 (w .machine .pairs) p v (t .pairs) b;
+        count = length-set (w .machine .pairs) p v ∙ t .count;
+        r8 = t .r8;
+        out = t .out;
+        sound = t .sound;
+        side = t .side;
+      };
+      bytes = ok .bytes;
+    }
 
 out-fit : (w : World) (v : ℕ) → Fit w → v < 256 → w .machine .model ≡ K128 → Fit (record { machine = withOut (w .machine) v; memory = w .memory })
 unfolding withOut
-out-fit w v ok b e = record { valid = out-valid (w .machine) v e ∙ ok .valid; area = ok .area; bytes = ok .bytes; out = b; count = ok .count }
+out-fit w v ok b e =
+    let t = ok .typed in
+    record {
+      valid = out-valid (w .machine) v e ∙ ok .valid;
+      area = ok .area;
+      typed = record { pairs = t .pairs; count = t .count; r8 = t .r8; out = b; sound = t .sound; side = t .side };
+      bytes = ok .bytes;
+    }
 
 -- a byte in a page
 byte-holds : (v : ℕ) (w : World) (log : List ℕ) (k page offset : ℕ) → Fit w → v < 256 → Inside (w .machine .model) page offset → k * 11 + 11 ≤ length log
@@ -183,24 +201,24 @@ byte-holds v w log k page offset ok b i fits =
       back = simp (byte-mod old (ok .bytes at), set-set, set-getD);
       forth = simp (byte-mod v b);
       before = ok;
-      after = record { valid = ok .valid; area = length-set (w .memory) at v ∙ ok .area; bytes = bytes-set (w .memory) at v (ok .bytes) b; out = ok .out; count = ok .count };
+      after = record { valid = ok .valid; area = length-set (w .memory) at v ∙ ok .area; typed = ok .typed; bytes = below-set 256 (w .memory) at v (ok .bytes) b };
     }
 
-pair-holds : (p v : ℕ) (w : World) (log : List ℕ) (k : ℕ) → Fit w → p ≤ 11 → k * 11 + 11 ≤ length log
+pair-holds : (p v : ℕ) (w : World) (log : List ℕ) (k : ℕ) → Fit w → v < 65536 → p ≤ 11 → k * 11 + 11 ≤ length log
     → Holds (putStep log k (step 2 p 0 (getD (w .machine .pairs) p 0) v)) k (step 2 p 0 (getD (w .machine .pairs) p 0) v) w
     (record { machine = withPair (w .machine) p v; memory = w .memory })
 unfolding present placed intact
-pair-holds p v w log k ok h fits =
+pair-holds p v w log k ok b h fits =
     record {
       reads = stepAt-same log k _ fits;
       whole = simp (lt-ltb p 12 (omega arith));
       model = pair-model (w .machine) p v;
-      new-there = pair-there (w .machine) p v (omega (arith, ok .count));
+      new-there = pair-there (w .machine) p v (omega (arith, ok .typed .count));
       old-there = refl;
       back = λ j. record { machine = pair-back (w .machine) p v j; memory = w .memory };
       forth = refl;
       before = ok;
-      after = pair-fit w p v ok;
+      after = pair-fit w p v ok b;
     }
 
 out-holds : (v : ℕ) (w : World) (log : List ℕ) (k : ℕ) → Fit w → v < 256 → w .machine .model ≡ K128 → k * 11 + 11 ≤ length log
@@ -210,11 +228,11 @@ unfolding present placed intact
 out-holds v w log k ok b e fits =
     record {
       reads = stepAt-same log k _ fits;
-      whole = simp (e, lt-ltb (w .machine .out7ffd) 256 (ok .out), lt-ltb v 256 b);
+      whole = simp (e, lt-ltb (w .machine .out7ffd) 256 (ok .typed .out), lt-ltb v 256 b);
       model = out-model (w .machine) v;
       new-there = out-there (w .machine) v;
       old-there = refl;
-      back = simp (byte-mod (w .machine .out7ffd) (ok .out), out-back);
+      back = simp (byte-mod (w .machine .out7ffd) (ok .typed .out), out-back);
       forth = simp (byte-mod v b);
       before = ok;
       after = out-fit w v ok b e;
@@ -227,9 +245,9 @@ held (byteAt a v) w log cap k ok wide e fits = go (placeIn (w .machine) a) refl 
   where
     go : (p : Place) → placeIn (w .machine) a ≡ p → romFirst p (room cap k) ≡ Accepted
         → Holds (putStep log k (byteStep p v (w .memory))) k (byteStep p v (w .memory)) w (record { machine = w .machine; memory = store p v (w .memory) })
-    go Rom q h = absurd (never RomAddress h)
+    go Rom q h = absurd (refused-not RomAddress h)
     go (Ram page offset) q h = byte-holds v w log k page offset ok (wide .1) (place-inside (w .machine .model) (w .machine .out7ffd) a page offset (wide .0) q) fits
-held (pairTo p v) w log cap k ok wide e fits = pair-holds p v w log k ok (ltb-false 11 p (refuse-not (ltb 11 p) PairNumber (room cap k) e .0)) fits
+held (pairTo p v) w log cap k ok wide e fits = pair-holds p v w log k ok wide (ltb-false 11 p (refuse-not (ltb 11 p) PairNumber (room cap k) e .0)) fits
 held (outTo v) w log cap k ok wide e fits = out-holds v w log k ok wide (out-128 (w .machine .model) (w .machine .out7ffd) (room cap k) e .0) fits
 
 pub refusal-room : (cap : ℕ) (w : World) (n : ℕ) (c : Correction) → refusal cap w n c ≡ Accepted → n < cap
@@ -237,7 +255,7 @@ unfolding refusal
 refusal-room cap w n (byteAt a v) e = go (placeIn (w .machine) a) e
   where
     go : (p : Place) → romFirst p (room cap n) ≡ Accepted → n < cap
-    go Rom h = absurd (never RomAddress h)
+    go Rom h = absurd (refused-not RomAddress h)
     go (Ram page offset) h = has-room cap n h
 refusal-room cap w n (pairTo p v) e = has-room cap n (refuse-not (ltb 11 p) PairNumber (room cap n) e .1)
 refusal-room cap w n (outTo v) e = has-room cap n (out-128 (w .machine .model) (w .machine .out7ffd) (room cap n) e .1)

@@ -3,3 +3,5 @@ pub mod Held
 pub mod Claim
 pub mod Leaves
 pub mod Calls
+pub mod Still
+pub mod Theorems

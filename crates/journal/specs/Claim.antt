@@ -5,20 +5,19 @@ use mathlib.Core.Bool.{true}
 use mathlib.Core.List.{List, [], _∷_}
 use lib.ListN.{length, getD}
 use Rattle.spectrum.specs.declared.Answer.{Answer}
-use Rattle.spectrum.specs.Valid.{validOf}
+use Rattle.spectrum.specs.Valid.{Typed, validOf}
 use Rattle.journal.specs.declared.Call.{Call}
 use Rattle.journal.specs.declared.Call.the-variants.{Byte, Pair, Out, Undo, Redo}
 use Rattle.journal.specs.Model.{World, Correction, byteAt, pairTo, outTo, made, emptyBench, modelAfter, modelAnswers}
 use Rattle.journal.specs.Steps.{capacity}
 use Rattle.journal.specs.Journal.{Desk, Did}
 
--- a start: a valid machine with 131,072 bytes; the last three are what the types of the code say of both
+-- a start: a valid machine with 131,072 bytes; the last two are what the types of the code say of both
 pub record Fit (w : World) : Type 0 where
   pub valid : validOf (w .machine) ≡ true
   pub area : length (w .memory) ≡ 131072
+  pub typed : Typed (w .machine)
   pub bytes : (i : ℕ) → getD (w .memory) i 0 < 256
-  pub out : w .machine .out7ffd < 256
-  pub count : length (w .machine .pairs) ≡ 12
 
 -- "What is asked is as wide as what it names .. so only a pair's number can be out of range."
 abbrev pub Wide : Correction → Type 0
@@ -57,3 +56,8 @@ pub record Claim (f : Call → Desk → Did) (start : World) (log : List ℕ) (c
   pub total : runAfter f (started start log) calls .total
       ≡ length (modelAfter start (capacity log) emptyBench calls .applied) + length (modelAfter start (capacity log) emptyBench calls .undone)
   pub answers : runAnswers f (started start log) calls ≡ modelAnswers start (capacity log) emptyBench calls
+
+-- DEMAND 3 of a way f to make calls: "From any valid machine with any memory of 131,072 bytes and a fresh log of any length, after ANY
+-- LIST of calls .. machine and memory equal the start's with the standing corrections made afresh in order. .. One claim over every list"
+abbrev pub ClaimOf : (Call → Desk → Did) → Type 0
+ClaimOf f = (start : World) (log : List ℕ) → Fit start → (calls : List Call) → WideCalls calls → Claim f start log calls

@@ -1,13 +1,11 @@
 -- What each call does to the machine, the memory, the log and its two numbers, on every input: what the calls' contracts cite.
-use Prim.Native.Nat.{ℕ, _+_, _-_, _≤_}
-use mathlib.Core.Path.{_≡_}
+use Prim.Native.Nat.{ℕ, _+_, _-_}
 use mathlib.Core.List.{List}
 use mathlib.Core.Bool.{Bool, true, false, not}
 use lib.ListN.{length}
 use lib.Dec.{ltb, leb, eqb}
 use Rattle.slices.specs.Choose.{choose, both}
 use Rattle.spectrum.specs.declared.Machine.{Machine}
-use Rattle.spectrum.specs.declared.Place.the-variants.{Ram}
 use Rattle.spectrum.specs.declared.Refusal.{Refusal}
 use Rattle.spectrum.specs.declared.Refusal.the-variants.{InvalidMachine, MemoryLength, NothingToMove, StepDamaged, CountsDisagree}
 use Rattle.spectrum.specs.declared.Answer.{Answer}
@@ -18,8 +16,8 @@ use Rattle.journal.specs.declared.Counts.{Counts}
 use Rattle.journal.specs.declared.Done.{Done}
 use Rattle.journal.specs.declared.Call.{Call}
 use Rattle.journal.specs.declared.Call.the-variants.{Byte, Pair, Out, Undo, Redo}
-use Rattle.journal.specs.Model.{World, Correction, byteAt, pairTo, outTo, store, make, refuse, refusal}
-use Rattle.journal.specs.Steps.{capacity, putStep, stepAt, byteStep, stepFor, present, placed, intact}
+use Rattle.journal.specs.Model.{World, Correction, byteAt, pairTo, outTo, make, refuse, refusal}
+use Rattle.journal.specs.Steps.{capacity, putStep, stepAt, stepFor, present, placed, intact}
 
 -- all that a call is lent and leaves
 pub record Desk : Type 0 where
@@ -71,19 +69,6 @@ corrected c d =
       };
     })
 
--- a byte of a page corrected, its step written
-abbrev pub byteMade : ℕ → ℕ → ℕ → Desk → Did
-byteMade page offset v d =
-    record {
-      answer = Accepted;
-      desk = record {
-        world = record { machine = d .world .machine; memory = store (Ram page offset) v (d .world .memory) };
-        log = putStep (d .log) (d .standing) (byteStep (Ram page offset) v (d .world .memory));
-        standing = d .standing + 1;
-        total = d .standing + 1;
-      };
-    }
-
 unfoldable pub journalCorrect : Correction → Desk → Did
 journalCorrect c d = sound d (corrected c d)
 
@@ -119,10 +104,3 @@ journalCall Redo d = journalRedo d
 -- "Starting is never refused; it sets the whole log to zero, standing and total to 0."
 abbrev pub startCounts : Counts
 startCounts = record { standing = 0; total = 0 }
-
--- what a call is lent once it is sound
-pub record Ready (memory log : List ℕ) (n : Counts) (cap : ℕ) : Type 0 where
-  pub capped : cap ≡ capacity log
-  pub area : length memory ≡ 131072
-  pub ordered : n .standing ≤ n .total
-  pub within : n .total ≤ cap

@@ -13,7 +13,8 @@ ghost use lib.ListN.{length, replicate};
 ghost use Rattle.spectrum.specs.declared.Answer.the-variants.{Accepted, Refused};
 ghost use Rattle.journal.specs.Model.{byteAt, pairTo, outTo};
 ghost use Rattle.journal.specs.Steps.{capacity, putStep, stepAt, present, placed, bytes, is128, tagIntact, intact};
-ghost use Rattle.journal.specs.Journal.{deskOn, didOf, soundness, corrected, byteMade, moved, journalCorrect, journalUndo, journalRedo, journalCall, startCounts, Ready};
+ghost use Rattle.journal.specs.Journal.{deskOn, didOf, soundness, corrected, moved, journalCorrect, journalUndo, journalRedo, journalCall, startCounts};
+ghost use Rattle.journal.specs.Inner.{byteMade, Ready};
 
 // The log's two numbers: how many corrections stand, and how many stand or wait.
 pub struct Counts {

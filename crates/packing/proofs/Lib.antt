@@ -5,3 +5,4 @@ pub mod UnpackSteps
 pub mod Codes
 pub mod PackSteps
 pub mod Stops
+pub mod Theorems

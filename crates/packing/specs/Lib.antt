@@ -2,3 +2,4 @@ pub mod Packed
 pub mod Unpacking
 pub mod Packing
 pub mod Inner
+pub mod Theorems

@@ -6,15 +6,8 @@ use native.Mathlib.Omega.{arith}
 use lib.ListN.{length, getD}
 use Rattle.journal.specs.declared.Call.{Call}
 use Rattle.journal.specs.declared.Call.the-variants.{Byte, Pair, Out, Undo, Redo}
-use Rattle.replay.specs.Replay.{callAt, callsFrom, callCount, callsIn}
-
-abbrev pub encode : List Call → List ℕ
-encode [] = []
-encode (Byte a v ∷ cs) = 0 ∷ a % 256 ∷ a / 256 ∷ v ∷ encode cs
-encode (Pair i v ∷ cs) = 1 ∷ v % 256 ∷ v / 256 ∷ i ∷ encode cs
-encode (Out v ∷ cs) = 2 ∷ v ∷ 0 ∷ 0 ∷ encode cs
-encode (Undo ∷ cs) = 3 ∷ 0 ∷ 0 ∷ 0 ∷ encode cs
-encode (Redo ∷ cs) = 4 ∷ 0 ∷ 0 ∷ 0 ∷ encode cs
+use Rattle.replay.specs.Replay.{callAt, encode, callsFrom, callCount, callsIn}
+use Rattle.replay.specs.Theorems.{TypedCalls}
 
 getD-four : (w x y z : ℕ) (b : List ℕ) (n k : ℕ) → n ≡ suc (suc (suc (suc k))) → getD (w ∷ x ∷ y ∷ z ∷ b) n 0 ≡ getD b k 0
 getD-four w x y z b n k e = rw e
@@ -36,7 +29,7 @@ calls-next w x y z b i (suc k) = rw (callAt-next w x y z b i, calls-next w x y z
 two-bytes : (v : ℕ) → v % 256 + 256 * (v / 256) ≡ v
 two-bytes v = omega arith
 
-pub every-list : (cs : List Call) → callsFrom (encode cs) 0 (length cs) ≡ cs
+every-list : (cs : List Call) → callsFrom (encode cs) 0 (length cs) ≡ cs
 unfolding callAt
 every-list [] = refl
 every-list (Byte a v ∷ cs) = simp two-bytes (ap (λ (l : List Call). Byte a v ∷ l) (calls-next _ _ _ _ (encode cs) 0 (length cs) ∙ every-list cs))
@@ -57,15 +50,6 @@ pub every-list-in : (cs : List Call) → callsIn (encode cs) (length cs) ≡ cs
 every-list-in cs =
     let e : callCount (encode cs) (length cs) ≡ length cs = omega (arith, encode-length cs) in
     rw e (every-list cs)
-
--- calls as the code's types have them
-abbrev pub TypedCalls : List Call → Type 0
-TypedCalls [] = Unit {0}
-TypedCalls (Byte a v ∷ cs) = (a < 65536) × (v < 256) × TypedCalls cs
-TypedCalls (Pair i v ∷ cs) = (i < 256) × (v < 65536) × TypedCalls cs
-TypedCalls (Out v ∷ cs) = (v < 256) × TypedCalls cs
-TypedCalls (Undo ∷ cs) = TypedCalls cs
-TypedCalls (Redo ∷ cs) = TypedCalls cs
 
 four-bytes : (w x y z : ℕ) (b : List ℕ) → w < 256 → x < 256 → y < 256 → z < 256 → ((i : ℕ) → getD b i 0 < 256) → (i : ℕ) → getD (w ∷ x ∷ y ∷ z ∷ b) i 0 < 256
 four-bytes w x y z b hw hx hy hz h zero = hw

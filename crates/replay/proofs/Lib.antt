@@ -4,3 +4,4 @@ pub mod Order
 pub mod Refuted
 pub mod Opened
 pub mod Never
+pub mod Theorems

@@ -18,9 +18,7 @@ use Rattle.spectrum.specs.Numbers.{numberOf, refusalNumber}
 use Rattle.journal.specs.declared.Call.{Call}
 use Rattle.journal.specs.declared.Call.the-variants.{Byte, Pair, Out, Undo, Redo}
 use Rattle.journal.specs.Model.{World, Correction, byteAt, pairTo, outTo, placeIn, made, refuse, romFirst, outFirst, room, refusal, Bench, joins, modelUndo, modelRedo, modelCall, modelAnswers}
-
-abbrev pub Other : ℕ → Type 0
-Other n = (n ≡ 28 → ⊥) × (n ≡ 29 → ⊥)
+use Rattle.replay.specs.Theorems.{Other, AllOther}
 
 refuse-other : (t : Bool) (why : Refusal) (a : Answer) → Other (refusalNumber why) → Other (numberOf a) → Other (numberOf (refuse t why a))
 refuse-other true why a p q = p
@@ -66,11 +64,6 @@ call-other start cap b (Out v) = correct-other start cap b (outTo v)
 call-other start cap b Undo = undo-other (b .applied) (b .undone)
 call-other start cap b Redo = redo-other (b .applied) (b .undone)
 
--- every answer of a list
-abbrev pub All : List Answer → Type 0
-All [] = Unit {0}
-All (a ∷ more) = Other (numberOf a) × All more
-
-pub never-28-29 : (start : World) (cap : ℕ) (b : Bench) (calls : List Call) → All (modelAnswers start cap b calls)
+pub never-28-29 : (start : World) (cap : ℕ) (b : Bench) (calls : List Call) → AllOther (modelAnswers start cap b calls)
 never-28-29 start cap b [] = tt
 never-28-29 start cap b (c ∷ cs) = (call-other start cap b c, never-28-29 start cap (modelCall start cap b c .bench) cs)

@@ -1,12 +1,8 @@
 -- The applied corrections have the last one at their head: made from them is the start with the corrections made afresh, first to last.
 use mathlib.Core.Path.{_≡_, refl}
 use mathlib.Core.List.{List, [], _∷_, reverse, reverseAux}
-use Rattle.journal.specs.Model.{World, Correction, make, made}
-
--- corrections made from the first of the list on
-abbrev pub afresh : World → List Correction → World
-afresh w [] = w
-afresh w (c ∷ cs) = afresh (make c w) cs
+use Rattle.journal.specs.Model.{World, Correction, made}
+use Rattle.replay.specs.Theorems.{afresh}
 
 afresh-aux : (w : World) (cs ds : List Correction) → afresh w (reverseAux cs ds) ≡ afresh (made w cs) ds
 afresh-aux w [] ds = refl

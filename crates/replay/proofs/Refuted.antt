@@ -1,76 +1,42 @@
--- The claim holds of the calls' definitions, and of each empty version it is false: a short list of calls on a 128K machine,
+-- Of each empty version the claim is false: a short list of calls on a 128K machine,
 -- all of whose numbers are 0, computes to the contradiction.
-use Prim.Native.Nat.{ℕ, zero, suc}
-use mathlib.Core.Path.{_≡_, refl, ap}
-use mathlib.Core.Bool.{false}
+use Prim.Native.Nat.{ℕ}
+use mathlib.Core.Path.{_≡_, ap}
 use mathlib.Core.List.{List, [], _∷_}
 use native.Mathlib.Omega.{arith}
-use lib.ListN.{getD, replicate, length-replicate}
+use lib.ListN.{replicate, length-replicate}
 use Rattle.slices.specs.Put.{put}
-use Rattle.spectrum.specs.declared.Machine.{Machine}
-use Rattle.spectrum.specs.declared.Model.the-variants.{K128}
-use Rattle.spectrum.specs.declared.Attachment.the-variants.{Nothing}
-use Rattle.spectrum.specs.declared.Video.the-variants.{Normal}
 use Rattle.spectrum.specs.Machine.{withOut}
 use Rattle.spectrum.specs.Valid.{validOf}
+use Rattle.z80file.proofs.Sample.{sample, zero-at, sample-typed, sample-valid}
 use Rattle.journal.specs.declared.Call.{Call}
 use Rattle.journal.specs.declared.Call.the-variants.{Out, Undo, Redo}
 use Rattle.journal.specs.Model.{World, make, refusal}
 use Rattle.journal.specs.Steps.{capacity, putStep, stepAt, stepFor, present, placed, intact}
-use Rattle.journal.specs.Journal.{soundness, corrected, journalCorrect, journalUndo, journalCall}
-use Rattle.journal.specs.Claim.{Fit, WideCalls}
-use Rattle.journal.proofs.Claim.{claim}
-use Rattle.replay.specs.Wrong.{ClaimOf, alwaysRefuses, altersNothing, undoesOnce, inventsCounts, redoesNothing}
-
-pub holds : ClaimOf journalCall
-holds = claim
+use Rattle.journal.specs.Journal.{soundness, corrected, journalCorrect, journalUndo}
+use Rattle.journal.specs.Claim.{Fit, WideCalls, ClaimOf}
+use Rattle.replay.specs.Wrong.{alwaysRefuses, altersNothing, undoesOnce, inventsCounts, redoesNothing}
 
 -- ---- the start
-
-m0 : Machine
-m0 =
-    record {
-      pairs = replicate 12 0;
-      i = 0;
-      r = 0;
-      switches = record { border = 0; iff1 = false; iff2 = false; im = 0; issue2 = false; double = false; video = Normal; joystick = 0 };
-      model = K128;
-      attachment = Nothing;
-      out7ffd = 0;
-      byte36 = 0;
-      remulation = false;
-      ldiremulation = false;
-      outfffd = 0;
-      sound = replicate 16 0;
-      position = 0;
-      side59 = 0;
-      side = replicate 25 0;
-    }
 
 area : List ℕ
 area = replicate 131072 0
 
 w0 : World
-w0 = record { machine = m0; memory = area }
+w0 = record { machine = sample; memory = area }
 
 -- a log with room for four steps
 log : List ℕ
 log = replicate 44 0
 
-zeros : (n i : ℕ) → _≡_ {A = ℕ} (getD (replicate n 0) i 0) 0
-zeros zero i = refl
-zeros (suc n) zero = refl
-zeros (suc n) (suc i) = zeros n i
-
 fit : Fit w0
-unfolding w0 m0 area validOf
+unfolding w0 area
 fit =
     record {
-      valid = refl;
+      valid = sample-valid;
       area = length-replicate {A = ℕ} 131072 0;
-      bytes = λ i. omega (arith, zeros 131072 i);
-      out = omega arith;
-      count = refl;
+      typed = sample-typed;
+      bytes = λ i. omega (arith, zero-at 131072 i);
     }
 
 -- ---- the lists
@@ -100,31 +66,31 @@ wide-again = (omega arith, (tt, (tt, tt)))
 
 -- after OUT 1 none stands, where one does
 pub refuted-refuses : ClaimOf alwaysRefuses → ⊥
-unfolding alwaysRefuses one w0 m0 log capacity refusal
+unfolding alwaysRefuses one w0 sample log capacity refusal
 refuted-refuses h = let e : _≡_ {A = ℕ} 0 1 = h w0 log fit one wide-one .standing in omega arith
 
 -- after OUT 1 the last OUT is 0, where it is 1
 pub refuted-alters-nothing : ClaimOf altersNothing → ⊥
-unfolding altersNothing one w0 m0 log capacity refusal make withOut
+unfolding altersNothing one w0 sample log capacity refusal make withOut
 refuted-alters-nothing h =
     let e : _≡_ {A = ℕ} 0 1 = ap (λ (w : World). w .machine .out7ffd) (h w0 log fit one wide-one .world) in
     omega arith
 
 -- after OUT 1, OUT 2, undo, undo the last OUT is 1, where it is 0
 pub refuted-undoes-once : ClaimOf undoesOnce → ⊥
-unfolding undoesOnce four w0 m0 area log journalCorrect corrected journalUndo soundness validOf capacity refusal make withOut stepFor putStep put stepAt intact present placed
+unfolding undoesOnce four w0 sample area log journalCorrect corrected journalUndo soundness validOf capacity refusal make withOut stepFor putStep put stepAt intact present placed
 refuted-undoes-once h =
     let e : _≡_ {A = ℕ} 1 0 = ap (λ (w : World). w .machine .out7ffd) (h w0 log fit four wide-four .world) in
     omega arith
 
 -- after OUT 1 seven stand, where one does
 pub refuted-counts : ClaimOf inventsCounts → ⊥
-unfolding inventsCounts one w0 m0 log capacity refusal
+unfolding inventsCounts one w0 sample log capacity refusal
 refuted-counts h = let e : _≡_ {A = ℕ} 7 1 = h w0 log fit one wide-one .standing in omega arith
 
 -- after OUT 1, undo, redo the last OUT is 0, where it is 1
 pub refuted-redo : ClaimOf redoesNothing → ⊥
-unfolding redoesNothing again w0 m0 area log journalCorrect corrected journalUndo soundness validOf capacity refusal make withOut stepFor putStep put stepAt intact present placed
+unfolding redoesNothing again w0 sample area log journalCorrect corrected journalUndo soundness validOf capacity refusal make withOut stepFor putStep put stepAt intact present placed
 refuted-redo h =
     let e : _≡_ {A = ℕ} 0 1 = ap (λ (w : World). w .machine .out7ffd) (h w0 log fit again wide-again .world) in
     omega arith

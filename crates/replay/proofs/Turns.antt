@@ -11,12 +11,10 @@ use lib.Seq.{take-suc-set, append-snoc}
 use borrow.Author.Tests.{eq-eqb, ne-eqb}
 use Rattle.slices.specs.Choose.{choose}
 use Rattle.spectrum.specs.declared.Machine.{Machine}
-use Rattle.spectrum.specs.declared.Refusal.{Refusal}
-use Rattle.spectrum.specs.declared.Refusal.the-variants.{AreaLength, FileShort, UnknownVersion, ModeNotCarried, InterruptMode, CounterRange, Byte60, BlockCut, BlockNumber, BlockTwice, MalformedData, UnpackedLength, BlockMissing, EndMarker, InvalidMachine, MemoryLength, OutputShort, RomAddress, OutOn48k, PagingLocked, JournalFull, NothingToMove, StepDamaged, CountsDisagree, PageNotOwned, RomLength, PairNumber}
 use Rattle.spectrum.specs.declared.Answer.{Answer}
-use Rattle.spectrum.specs.declared.Answer.the-variants.{Accepted, Refused}
-use Rattle.spectrum.specs.Numbers.{numberOf, refusalNumber}
-use Rattle.spectrum.specs.Valid.{validOf}
+use Rattle.spectrum.specs.declared.Answer.the-variants.{Accepted}
+use Rattle.spectrum.specs.Numbers.{numberOf}
+use Rattle.spectrum.specs.Valid.{Typed, validOf}
 use Rattle.journal.specs.declared.Done.{Done}
 use Rattle.journal.specs.declared.Counts.{Counts}
 use Rattle.journal.specs.declared.Call.{Call}
@@ -39,7 +37,7 @@ pub record Going (calls : List ℕ) (n : ℕ) (d₀ d : Desk) (a : Answer) (numb
   pub said : take i numbers ++ map numberOf (runAnswers journalCall d (callsFrom calls i (n - i))) ≡ map numberOf (runAnswers journalCall d₀ (callsFrom calls 0 n))
   pub last : lastOf a (runAnswers journalCall d (callsFrom calls i (n - i))) ≡ lastOf Accepted (runAnswers journalCall d₀ (callsFrom calls 0 n))
 
-calls-more : (b : List ℕ) (i n : ℕ) → i < n → callsFrom b i (n - i) ≡ callAt b i ∷ callsFrom b (i + 1) (n - (i + 1))
+pub calls-more : (b : List ℕ) (i n : ℕ) → i < n → callsFrom b i (n - i) ≡ callAt b i ∷ callsFrom b (i + 1) (n - (i + 1))
 calls-more b i n h =
     let q : n - i ≡ suc (n - (i + 1)) = omega arith in
     ap (callsFrom b i) q ∙ ap (λ (k : ℕ). callAt b i ∷ callsFrom b k (n - (i + 1))) (sym (add-one i))
@@ -109,20 +107,19 @@ wide-at b h i = go (eqb (getD b (i * 4) 0) 0) (eqb (getD b (i * 4) 0) 1) (eqb (g
     go false false false true = tt
     go false false false false = tt
 
-wide-all : (b : List ℕ) → ((i : ℕ) → getD b i 0 < 256) → (i k : ℕ) → WideCalls (callsFrom b i k)
+pub wide-all : (b : List ℕ) → ((i : ℕ) → getD b i 0 < 256) → (i k : ℕ) → WideCalls (callsFrom b i k)
 wide-all b h i zero = tt
 wide-all b h i (suc k) = (wide-at b h i, wide-all b h (suc i) k)
 
-capacity-zeros : (log : List ℕ) → capacity (replicate (length log) 0) ≡ capacity log
+pub capacity-zeros : (log : List ℕ) → capacity (replicate (length log) 0) ≡ capacity log
 unfolding capacity
 capacity-zeros log = rw (length-replicate {A = ℕ} (length log) 0)
 
 -- the promise of `replay`, from what its run leaves
 pub replays : (m : Machine) (memory log zeros calls : List ℕ) (room : ℕ) (counts : Counts) (r : Done) (memory′ log′ numbers : List ℕ)
-    → (validOf m ≡ true → length memory ≡ 131072 → Fit (record { machine = m; memory = memory }))
-    → ((j : ℕ) → getD calls j 0 < 256) → counts ≡ startCounts → zeros ≡ replicate (length log) 0 → Ran calls room (deskOn m memory zeros counts) r memory′ log′ numbers
+    → Typed m → ((j : ℕ) → getD memory j 0 < 256) → ((j : ℕ) → getD calls j 0 < 256) → counts ≡ startCounts → zeros ≡ replicate (length log) 0 → Ran calls room (deskOn m memory zeros counts) r memory′ log′ numbers
     → Replays (record { machine = m; memory = memory }) log calls room r memory′ log′ numbers
-replays m memory log zeros calls room counts r memory′ log′ numbers fit bytes ec ez g₀ =
+replays m memory log zeros calls room counts r memory′ log′ numbers typed mb cb ec ez g₀ =
     let start : World = record { machine = m; memory = memory } in
     let fresh : List ℕ = replicate (length log) 0 in
     let cs = callsIn calls room in
@@ -132,7 +129,7 @@ replays m memory log zeros calls room counts r memory′ log′ numbers fit byte
     record {
       ran = g;
       claim = λ v a.
-          let q = claim start fresh (fit v a) cs (wide-all calls bytes 0 (callCount calls room)) in
+          let q = claim start fresh (record { valid = v; area = a; typed = typed; bytes = mb }) cs (wide-all calls cb 0 (callCount calls room)) in
           subst (λ (k : ℕ). Leaves start k cs left (modelAfter start k emptyBench cs) r memory′ numbers) (capacity-zeros log)
           (record {
             machine = ap (λ (x : Desk). x .world .machine) (g .desk) ∙ ap (λ (w : World). w .machine) (q .world);
@@ -165,37 +162,3 @@ module _ (b : List ℕ) (i : ℕ) (h : getD b (i * 4) 0 ≡ 0 → ⊥) (g : getD
   pub at-redo : (getD b (i * 4) 0 ≡ 2 → ⊥) → (getD b (i * 4) 0 ≡ 3 → ⊥) → Redo ≡ callAt b i
   unfolding callAt
   at-redo k l = simp (ne-eqb (getD b (i * 4) 0) 0 h, ne-eqb (getD b (i * 4) 0) 1 g, ne-eqb (getD b (i * 4) 0) 2 k, ne-eqb (getD b (i * 4) 0) 3 l)
-
--- the numbers of the table are bytes
-refusal-small : (w : Refusal) → refusalNumber w < 256
-refusal-small AreaLength = omega arith
-refusal-small FileShort = omega arith
-refusal-small UnknownVersion = omega arith
-refusal-small ModeNotCarried = omega arith
-refusal-small InterruptMode = omega arith
-refusal-small CounterRange = omega arith
-refusal-small Byte60 = omega arith
-refusal-small BlockCut = omega arith
-refusal-small BlockNumber = omega arith
-refusal-small BlockTwice = omega arith
-refusal-small MalformedData = omega arith
-refusal-small UnpackedLength = omega arith
-refusal-small BlockMissing = omega arith
-refusal-small EndMarker = omega arith
-refusal-small InvalidMachine = omega arith
-refusal-small MemoryLength = omega arith
-refusal-small OutputShort = omega arith
-refusal-small RomAddress = omega arith
-refusal-small OutOn48k = omega arith
-refusal-small PagingLocked = omega arith
-refusal-small JournalFull = omega arith
-refusal-small NothingToMove = omega arith
-refusal-small StepDamaged = omega arith
-refusal-small CountsDisagree = omega arith
-refusal-small PageNotOwned = omega arith
-refusal-small RomLength = omega arith
-refusal-small PairNumber = omega arith
-
-pub number-small : (a : Answer) → numberOf a < 256
-number-small Accepted = omega arith
-number-small (Refused w) = refusal-small w

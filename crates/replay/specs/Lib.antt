@@ -1,2 +1,3 @@
 pub mod Replay
 pub mod Wrong
+pub mod Theorems

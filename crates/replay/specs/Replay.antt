@@ -1,5 +1,5 @@
 -- A list of calls as bytes, four to a call, and what is claimed of a run of them: it rests on the model alone.
-use Prim.Native.Nat.{ℕ, zero, suc, _+_, _-_, _*_, _/_, min}
+use Prim.Native.Nat.{ℕ, zero, suc, _+_, _-_, _*_, _/_, _%_, min}
 use mathlib.Core.Path.{_≡_}
 use mathlib.Core.Bool.{true}
 use mathlib.Core.List.{List, [], _∷_, _++_, map}
@@ -29,6 +29,15 @@ callAt b i =
     (choose (eqb (getD b (i * 4) 0) 2)
     (Out (getD b (i * 4 + 1) 0))
     (choose (eqb (getD b (i * 4) 0) 3) Undo Redo)))
+
+-- a list of calls as bytes, four to a call
+abbrev pub encode : List Call → List ℕ
+encode [] = []
+encode (Byte address v ∷ cs) = 0 ∷ address % 256 ∷ address / 256 ∷ v ∷ encode cs
+encode (Pair p v ∷ cs) = 1 ∷ v % 256 ∷ v / 256 ∷ p ∷ encode cs
+encode (Out v ∷ cs) = 2 ∷ v ∷ 0 ∷ 0 ∷ encode cs
+encode (Undo ∷ cs) = 3 ∷ 0 ∷ 0 ∷ 0 ∷ encode cs
+encode (Redo ∷ cs) = 4 ∷ 0 ∷ 0 ∷ 0 ∷ encode cs
 
 -- k calls from number i on
 abbrev pub callsFrom : List ℕ → ℕ → ℕ → List Call

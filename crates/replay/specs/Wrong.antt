@@ -1,19 +1,12 @@
--- The empty versions that document 01 names against demand 3, as ways to make a call, and the claim as a statement about such a way.
-use Prim.Native.Nat.{ℕ, _+_, _-_}
-use mathlib.Core.List.{List}
+-- The empty versions that document 01 names against demand 3, as ways to make a call.
+use Prim.Native.Nat.{_+_, _-_}
 use lib.Dec.{eqb}
 use Rattle.slices.specs.Choose.{choose}
 use Rattle.spectrum.specs.declared.Refusal.the-variants.{JournalFull}
 use Rattle.spectrum.specs.declared.Answer.the-variants.{Accepted}
 use Rattle.journal.specs.declared.Call.{Call}
 use Rattle.journal.specs.declared.Call.the-variants.{Byte, Pair, Out, Undo, Redo}
-use Rattle.journal.specs.Model.{World}
 use Rattle.journal.specs.Journal.{Desk, Did, refused, journalUndo, journalRedo, journalCall}
-use Rattle.journal.specs.Claim.{Fit, WideCalls, Claim}
-
--- demand 3 of a way f to make calls: "One claim over every list"
-abbrev pub ClaimOf : (Call → Desk → Did) → Type 0
-ClaimOf f = (start : World) (log : List ℕ) → Fit start → (calls : List Call) → WideCalls calls → Claim f start log calls
 
 -- a correction that always refuses
 unfoldable pub alwaysRefuses : Call → Desk → Did

@@ -75,7 +75,7 @@ fn run(
 }
 
 // How many calls are made.
-fn call_count(calls: &[u8], room: usize) -> usize
+pub fn call_count(calls: &[u8], room: usize) -> usize
     ensures { λ r. ⌜ r ≡ callCount (now (calls .entry)) room ⌝ }
 {
     let n = calls.len() / 4;
@@ -83,7 +83,7 @@ fn call_count(calls: &[u8], room: usize) -> usize
 }
 
 // The call at a number of the list.
-fn call_at(calls: &[u8], i: usize) -> Call
+pub fn call_at(calls: &[u8], i: usize) -> Call
     requires { ⌜ i * 4 + 4 ≤ length (now calls) ⌝ }
     ensures { λ r. ⌜ r ≡ callAt (now (calls .entry)) i ⌝ }
 {

@@ -22,7 +22,8 @@ use Rattle.journal.specs.Journal.{Desk, Did, deskOn, didOf}
 use Rattle.view.specs.declared.Part.{Part}
 use Rattle.view.specs.declared.Part.the-variants.{Nowhere, InArea, InRom}
 use Rattle.view.specs.View.{viewAnswer, partFor}
-use Rattle.snapshot.specs.Journal.{Buffers, callOn, Leaves, PutBack, showOf, Shows}
+use Rattle.snapshot.specs.Journal.{Buffers, callOn, Leaves, showOf, Shows}
+use Rattle.snapshot.specs.Inner.{PutBack}
 
 -- bytes that are taken are 86
 pub taken-86 : (head : List ℕ) (t : Taken) → t ≡ takenOf head → t .canonical ≡ true → length head ≡ 86

@@ -1,2 +1,3 @@
 pub mod FileSteps
 pub mod CallSteps
+pub mod Accepted

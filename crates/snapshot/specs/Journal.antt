@@ -9,7 +9,6 @@ use Rattle.spectrum.specs.Numbers.{numberOf}
 use Rattle.header.specs.declared.Taken.{Taken}
 use Rattle.header.specs.Writing.{headerOf}
 use Rattle.header.specs.Heads.{takenOf}
-use Rattle.journal.specs.declared.Done.{Done}
 use Rattle.journal.specs.Journal.{Desk, Did}
 use Rattle.view.specs.declared.Part.{Part}
 use Rattle.view.specs.declared.Part.the-variants.{Nowhere, InArea, InRom}
@@ -60,13 +59,6 @@ pub record Leaves (x : Answered) (r : ℕ) (h a l : List ℕ) (s t : ℕ) : Type
   pub log : l ≡ x .left .log
   pub standing : s ≡ x .left .standing
   pub total : t ≡ x .left .total
-
--- what is put back of a call's answer
-pub record PutBack (d : Done) (r : ℕ) (h : List ℕ) (s t : ℕ) : Type 0 where
-  pub answer : r ≡ numberOf (d .answer)
-  pub header : h ≡ headerOf (d .machine)
-  pub standing : s ≡ d .counts .standing
-  pub total : t ≡ d .counts .total
 
 -- a view: "*in_rom is 1 for the ROM and 0 for the area. Refused: all three are 0"
 pub record Shown : Type 0 where

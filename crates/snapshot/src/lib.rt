@@ -9,7 +9,8 @@ ghost use mathlib.Core.Path.{_≡_};
 ghost use lib.ListN.{length, replicate};
 ghost use Rattle.journal.specs.Model.{byteAt, pairTo, outTo};
 ghost use Rattle.journal.specs.Journal.{journalCorrect, journalUndo, journalRedo};
-ghost use Rattle.snapshot.specs.Journal.{Leaves, callOn, PutBack, Shows, showOf};
+ghost use Rattle.snapshot.specs.Journal.{Leaves, callOn, Shows, showOf};
+ghost use Rattle.snapshot.specs.Inner.{PutBack};
 ghost use Rattle.snapshot.specs.Files.{readOfBytes, ReadsBytes, writeOfBytes, WritesBytes};
 
 // A .Z80 file into an area of 131,072 bytes and a header of 86.

@@ -1,3 +1,6 @@
 pub mod Zeros
 pub mod Places
 pub mod Validity
+pub mod Numbers
+pub mod Clock
+pub mod Theorems

@@ -3,3 +3,4 @@ pub mod Machine
 pub mod Clock
 pub mod Pages
 pub mod Valid
+pub mod Theorems

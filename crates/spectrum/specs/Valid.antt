@@ -44,5 +44,6 @@ pub record Typed (m : Machine) : Type 0 where
   pub pairs : (k : ℕ) → getD (m .pairs) k 0 < 65536
   pub count : length (m .pairs) ≡ 12
   pub r8 : m .r < 256
+  pub out : m .out7ffd < 256
   pub sound : length (m .sound) ≡ 16
   pub side : length (m .side) ≡ 25

@@ -45,7 +45,7 @@ good-page model (bytes xs) page rest o h = go (eqb (length xs) 16384) refl
     go true e = (o, (h, eqb-true _ _ e))
     go false e = tt
 
-owned-page : (model : Model) (n p : ℕ) → pageOf model n ≡ At p → (owned model p ≡ true) × (p < 8)
+pub owned-page : (model : Model) (n p : ℕ) → pageOf model n ≡ At p → (owned model p ≡ true) × (p < 8)
 unfolding pageOf
 owned-page K48 n p e = go (eqb n 8) (eqb n 4) (eqb n 5) e
   where
@@ -114,7 +114,7 @@ good-turns model (suc turns) seen a s k =
     (good-then model (blockOf model seen s) on (good-block model seen s)
     (λ page xs rest o h l. good-turns model turns (set seen page true) (put a (page * 16384) xs) rest (clean-put model a xs page k o h l)))
 
-clean-blank : (model : Model) → Clean model (blank 131072)
+pub clean-blank : (model : Model) → Clean model (blank 131072)
 clean-blank model = record { long = blank-long 131072; clear = λ i h e. blank-at 131072 i h }
 
 pub good-blocks : (model : Model) (s : List ℕ) → Good model (blocksInto model (blank 131072) s)

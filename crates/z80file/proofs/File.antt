@@ -14,11 +14,11 @@ use Rattle.spectrum.specs.declared.Machine.{Machine}
 use Rattle.spectrum.specs.declared.Model.{Model}
 use Rattle.spectrum.specs.declared.Model.the-variants.{K48}
 use Rattle.spectrum.specs.declared.Attachment.{Attachment}
-use Rattle.spectrum.specs.declared.Refusal.{Refusal}
 use Rattle.spectrum.specs.declared.Refusal.the-variants.{AreaLength, InvalidMachine, MemoryLength, OutputShort}
-use Rattle.spectrum.specs.declared.Answer.the-variants.{Accepted, Refused}
+use Rattle.spectrum.specs.declared.Answer.the-variants.{Accepted}
 use Rattle.spectrum.specs.Valid.{Typed, validOf}
 use Rattle.spectrum.proofs.Validity.{valid-says}
+use Rattle.spectrum.proofs.Numbers.{refused-not}
 use Rattle.header.specs.declared.Version.{Version}
 use Rattle.header.specs.declared.Version.the-variants.{V1, V2, V3}
 use Rattle.header.specs.declared.Head.{Head}
@@ -37,12 +37,12 @@ use Rattle.z80write.specs.declared.Written.{Written}
 use Rattle.z80write.specs.Written as W
 use Rattle.z80write.proofs.Whole.{room}
 use Rattle.z80write.proofs.Longest.{never-short}
-use Rattle.z80file.specs.Clean.{Clean}
+use Rattle.z80file.specs.Clean.{Clean, Start}
 use Rattle.z80file.specs.RoundTrip.{Asks, RoundTrip, Rewrites, Alike, WritesAndReads, ReadsAndWrites}
 use Rattle.z80file.proofs.Back.{blocks-back}
 use Rattle.z80file.proofs.Accepted.{Good, good-blocks, good-body}
 
--- THE LAW: reading the file of a valid machine and a clean memory gives both back
+-- reading the file of a valid machine and a clean memory gives both back
 pub file-back : (m : Machine) (area : List ℕ) → Typed m → validOf m ≡ true → Clean (m .model) area
     → R.readOf (W.fileOf m area) 131072 ≡ record { answer = Accepted; machine = m; memory = area }
 unfolding R.readOf
@@ -55,11 +55,8 @@ file-back m area t h c =
     ∙ ap (λ (x : Reading). R.outcomeOf x (machineOf V3 (m .model) (m .attachment) (W.fileOf m area)) 131072) b
     ∙ ap (λ (x : Machine). record { answer = Accepted; machine = x; memory = area }) (machine-back m rest t v)
 
-not-accepted : (w : Refusal) → Refused w ≡ Accepted → ⊥
-not-accepted w p = let z : _≡_ {A = ℕ} 0 1 = cc in omega arith
-
 -- what an accepted write left begins with the file
-holds : (m : Machine) (area : List ℕ) (n : ℕ) → W.writtenOf m area n .answer ≡ Accepted → take (W.writtenOf m area n .size) (W.writtenOf m area n .out) ≡ W.fileOf m area
+pub holds : (m : Machine) (area : List ℕ) (n : ℕ) → W.writtenOf m area n .answer ≡ Accepted → take (W.writtenOf m area n .size) (W.writtenOf m area n .out) ≡ W.fileOf m area
 unfolding W.writtenOf
 holds m area n = go (validOf m) (eqb (length area) 131072) (leb (length (W.fileOf m area)) n)
   where
@@ -71,9 +68,9 @@ holds m area n = go (validOf m) (eqb (length area) 131072) (leb (length (W.fileO
 
     go : (t u v : Bool) → o t u v .answer ≡ Accepted → take (o t u v .size) (o t u v .out) ≡ f
     go true true true h = take-at f (replicate (n - length f) 0) (length f) refl
-    go true true false h = absurd (not-accepted OutputShort h)
-    go true false v h = absurd (not-accepted MemoryLength h)
-    go false u v h = absurd (not-accepted InvalidMachine h)
+    go true true false h = absurd (refused-not OutputShort h)
+    go true false v h = absurd (refused-not MemoryLength h)
+    go false u v h = absurd (refused-not InvalidMachine h)
 
 size-inside : (m : Machine) (area : List ℕ) (n : ℕ) → W.writtenOf m area n .size ≤ n
 unfolding W.writtenOf
@@ -92,12 +89,6 @@ size-inside m area n = go (validOf m) (eqb (length area) 131072) (leb (length (W
 pub length-inside : (m : Machine) (area : List ℕ) (n : ℕ) (w : Written) (d : List ℕ) → W.Writes (W.writtenOf m area n) w d → w .length ≤ n
 length-inside m area n w d g = subst (λ (k : ℕ). k ≤ n) (sym (g .size)) (size-inside m area n)
 
--- what an accepted read tells of the machine and the memory: it is a start, and it can be written
-pub record Start (m : Machine) (area : List ℕ) (n : ℕ) : Type 0 where
-  pub whole-area : n ≡ 131072
-  pub valid : validOf m ≡ true
-  pub clean : Clean (m .model) area
-
 good-memory : (v : Version) (model : Model) (s : List ℕ) → (v ≡ V1 → model ≡ K48) → Good model (R.memoryInto v model (blank 131072) s)
 good-memory V1 model s f = subst (λ (k : Model). Good k (R.memoryInto V1 k (blank 131072) s)) (sym (f refl)) (good-body (bitAt (byte12Of s) 32) (drop 30 s))
 good-memory V2 model s f = good-blocks model (drop 55 s)
@@ -110,7 +101,7 @@ model-is v model a s = refl
 started : (s : List ℕ) (n : ℕ) (v : Version) (model : Model) (a : Attachment) (x : Reading) → n ≡ 131072 → headOf s ≡ Header v model a → Good model x
     → R.outcomeOf x (machineOf v model a s) n .answer ≡ Accepted
     → Start (R.outcomeOf x (machineOf v model a s) n .machine) (R.outcomeOf x (machineOf v model a s) n .memory) n
-started s n v model a (refusal w) l e g h = absurd (not-accepted w h)
+started s n v model a (refusal w) l e g h = absurd (refused-not w h)
 started s n v model a (whole area) l e g h =
     record {
       whole-area = l;
@@ -126,10 +117,10 @@ read-start s n = go (eqb n 131072) refl (headOf s) refl
     o t x = choose t (R.afterHead x s n) (R.refusedRead AreaLength n)
 
     go : (t : Bool) → eqb n 131072 ≡ t → (x : Head) → headOf s ≡ x → o t x .answer ≡ Accepted → Start (o t x .machine) (o t x .memory) n
-    go true e (Head.Refused w) q h = absurd (not-accepted w h)
+    go true e (Head.Refused w) q h = absurd (refused-not w h)
     go true e (Header v model a) q h =
         started s n v model a (R.memoryInto v model (blank 131072) s) (eqb-true _ _ e) q (good-memory v model s (opens s (headOf s) v model a refl q .first)) h
-    go false e x q h = absurd (not-accepted AreaLength h)
+    go false e x q h = absurd (refused-not AreaLength h)
 
 -- the functions
 pub alike : (s one other : List ℕ) (m n : ℕ) (a b : Opened) → R.Reads (R.readOf s m) a one → R.Reads (R.readOf s n) b other → m ≡ n

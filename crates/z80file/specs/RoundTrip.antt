@@ -6,7 +6,7 @@ use mathlib.Core.List.{List}
 use lib.ListN.{length, take}
 use Rattle.spectrum.specs.declared.Machine.{Machine}
 use Rattle.spectrum.specs.declared.Answer.the-variants.{Accepted}
-use Rattle.spectrum.specs.Valid.{validOf}
+use Rattle.spectrum.specs.Valid.{Typed, validOf}
 use Rattle.z80read.specs.declared.Opened.{Opened}
 use Rattle.z80read.specs.Read as R
 use Rattle.z80read.specs.Read.{readOf, Reads}
@@ -60,3 +60,13 @@ pub record ReadsAndWrites (o : R.Outcome) (n : ℕ) (r : Rewritten) (area out : 
   pub read : Reads o (r .opened) area
   pub written : W.Writes (W.writtenOf (o .machine) (o .memory) n) (r .written) out
   pub rewrites : o .answer ≡ Accepted → 131182 ≤ n → Rewrites r area out
+
+-- DEMAND 2, of a way to read and a way to write.
+pub record FilesOf (read : List ℕ → ℕ → R.Outcome) (write : Machine → List ℕ → ℕ → W.Outcome) : Type 0 where
+  -- "Reading accepts exactly the .Z80 files that document 01 describes, and gives the machine and memory it says."
+  pub reads : (s : List ℕ) (n : ℕ) → read s n ≡ readOf s n
+  -- "Writing gives the one file it lays down."
+  pub writes : (m : Machine) (area : List ℕ) (n : ℕ) → write m area n ≡ W.writtenOf m area n
+  -- "For a valid machine whose unused pages are zero, reading that file gives the machine and memory back."
+  pub back : (m : Machine) (area : List ℕ) → Typed m → validOf m ≡ true → Clean (m .model) area
+      → read (take (write m area 131182 .size) (write m area 131182 .out)) 131072 ≡ record { answer = Accepted; machine = m; memory = area }

@@ -1,1 +1,4 @@
 pub mod Whole
+pub mod Typed
+pub mod Lengths
+pub mod Theorems

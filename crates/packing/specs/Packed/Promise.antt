@@ -5,12 +5,12 @@ use native.Mathlib.Omega.{arith}
 use mathlib.Core.Path.{_≡_, refl, sym, ap, subst, _∙_}
 use mathlib.Core.Bool.{Bool, true, false}
 use mathlib.Core.List.{List, [], _∷_, _++_}
-use lib.ListN.{length, getD, take, drop, replicate, length-append, length-take}
+use lib.ListN.{length, getD, take, drop, replicate, length-append, length-take, length-replicate}
 use lib.Dec.{eqb, leb}
 use borrow.Author.Tests.{eqb-true, eqb-false, leb-true, leb-false}
 use Rattle.slices.specs.Choose.{choose}
 use Rattle.slices.proofs.Chosen.{either}
-use Rattle.packing.specs.Packed.{bytes, before, unpacked, front, packedFrom, packed}
+use Rattle.packing.specs.Packed.{Found, malformed, bytes, before, pair, unpacked, front, packedFrom, packed}
 use Rattle.packing.specs.Packed.Steps.{alone, plain, code}
 
 -- the bytes at the front
@@ -147,3 +147,30 @@ packed-short xs = omega (arith, all-short xs 0 .0)
 
 pub page-short : (xs : List ℕ) → length xs ≡ 16384 → length (packed xs) ≤ 27306
 page-short xs h = omega (arith, packed-short xs)
+
+-- n bytes of packed data are few enough for what they stand for
+abbrev Enough : ℕ → Found → Type 0
+Enough n malformed = Unit {0}
+Enough n (bytes xs) = n ≤ 4 * length xs
+
+enough-before : (xs : List ℕ) (m n : ℕ) (u : Found) → m ≤ n + 4 * length xs → Enough n u → Enough m (before xs u)
+enough-before xs m n malformed h e = tt
+enough-before xs m n (bytes ys) h e = omega (arith, length-append xs ys)
+
+all-enough : (s : List ℕ) → Enough (length s) (unpacked s)
+unfolding unpacked
+all-enough [] = omega arith
+all-enough (a ∷ []) = omega arith
+all-enough (a ∷ b ∷ []) = either (Enough 2) (pair a b) _ _ (λ t. tt) (λ f. enough-before (a ∷ []) 2 1 (unpacked (b ∷ [])) (omega arith) (all-enough (b ∷ [])))
+all-enough (a ∷ b ∷ n ∷ []) = either (Enough 3) (pair a b) _ _ (λ t. tt) (λ f. enough-before (a ∷ []) 3 2 (unpacked (b ∷ n ∷ [])) (omega arith) (all-enough (b ∷ n ∷ [])))
+all-enough (a ∷ b ∷ n ∷ y ∷ s) =
+    let l = b ∷ n ∷ y ∷ s in
+    let k = suc (length l) in
+    either (Enough k) (pair a b) _ _
+    (λ t. either (Enough k) (eqb n 0) _ _ (λ z. tt)
+    (λ z. enough-before (replicate n y) k (length s) (unpacked s) (omega (arith, length-replicate n y, eqb-false n 0 z)) (all-enough s)))
+    (λ f. enough-before (a ∷ []) k (length l) (unpacked l) (omega arith) (all-enough (b ∷ n ∷ y ∷ s)))
+
+-- a code of four bytes stands for one byte or more
+pub unpacked-long : (s xs : List ℕ) → unpacked s ≡ bytes xs → length s ≤ 4 * length xs
+unpacked-long s xs e = subst (Enough (length s)) e (all-enough s)

@@ -1,5 +1,5 @@
 use native.Mathlib.Omega.{arith}
-use Rattle.replay.proofs.Turns.{number-small}
+use Rattle.spectrum.proofs.Numbers.{number-small}
 use borrow.Author.Needs.{needs}
 use Rattle.replay.proofs.number_of.Statement.{statement}
 use Rattle.replay.proofs.number_of.Tie as tie

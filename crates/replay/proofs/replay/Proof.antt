@@ -24,13 +24,13 @@ same-length-3 c = search needs
 
 returns : tie.Need-returns
 returns c =
-    let s = c .before .before .before .before .before .before .before .before .before .before .before .before .before .before .before .before .before .before .before in
     let memory = c .before .before .before .before .before .before .before .before .before .before .before .before .before .before .before .before .before .before .slice-known .given in
     let calls = c .before .before .before .before .before .before .before .before .before .before .before .before .before .before .before .before .shared-slice-known .given in
-    let count = c .before .before .before .before .before .before .before .before .before .before .before .before .before .before .typed .ensures .count in
+    let typed = c .before .before .before .before .before .before .before .before .before .before .before .before .before .before .typed .ensures in
     let start = c .before .before .before .before .before .before .before .before .before .before .before .before .start .ensures in
     replays _ _ _ _ _ _ _ _ _ _ _
-    (λ v a. record { valid = v; area = a; bytes = λ i. omega (arith, memory i); out = omega (arith, s); count = count })
+    typed
+    (λ j. omega (arith, memory j))
     (λ j. omega (arith, calls j))
     (start .0)
     (start .1)

@@ -10,6 +10,7 @@ returns c = record {
   pairs = λ k. (let f : Fits w16 (getD (c .args .self .pairs) k 0) = search (needs, c .good .0) in f .fits);
   count = search (needs, c .good .0);
   r8 = search (needs, c .good .0);
+  out = search (needs, c .good .0);
   sound = search (needs, c .good .0 .1 .1 .1 .1 .1 .1 .1 .1 .1 .1);
   side = search (needs, c .good .0 .1 .1 .1 .1 .1 .1 .1 .1 .1 .1);
 }

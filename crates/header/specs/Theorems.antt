@@ -1,0 +1,24 @@
+-- What is claimed of headers beyond the functions' contracts.
+use Prim.Native.Nat.{ℕ, _<_}
+use mathlib.Core.Path.{_≡_}
+use mathlib.Core.Bool.{true}
+use mathlib.Core.List.{List, _++_}
+use lib.ListN.{length, getD}
+use Rattle.spectrum.specs.declared.Machine.{Machine}
+use Rattle.header.specs.declared.Version.the-variants.{V3}
+use Rattle.header.specs.declared.Head.the-variants.{Header}
+use Rattle.header.specs.Reading.{machineOf}
+use Rattle.header.specs.Writing.{headerOf, HeaderFor}
+use Rattle.header.specs.Heads.{headOf, takenOf}
+
+pub record Theorems : Type 0 where
+  -- a valid machine's header, whatever follows it, reads as that machine
+  pub head-back : (m : Machine) (rest : List ℕ) → HeaderFor m (headerOf m) → headOf (headerOf m ++ rest) ≡ Header V3 (m .model) (m .attachment)
+  pub machine-back : (m : Machine) (rest : List ℕ) → HeaderFor m (headerOf m) → machineOf V3 (m .model) (m .attachment) (headerOf m ++ rest) ≡ m
+  -- "the 86-byte v3 header"
+  pub header-length : (m : Machine) (head : List ℕ) → HeaderFor m head → length head ≡ 86
+  -- "bytes that our writer makes" are exactly the headers of valid machines: these are taken as their machine, and no others
+  pub taken-back : (m : Machine) (head : List ℕ) → HeaderFor m head → takenOf head ≡ record { canonical = true; machine = m }
+  pub taken-is : (s : List ℕ) → ((i : ℕ) → getD s i 0 < 256) → takenOf s .canonical ≡ true → HeaderFor (takenOf s .machine) s
+  -- two machines do not share a header
+  pub one-machine : (m n : Machine) (head : List ℕ) → HeaderFor m head → HeaderFor n head → m ≡ n

@@ -1,0 +1,15 @@
+-- The one value of the record of theorems.
+use Rattle.packing.specs.Packed.Promise.{unpacked-packed, packed-short, page-short, unpacked-long}
+use Rattle.packing.specs.Packed.Examples.{longest, examples}
+use Rattle.packing.specs.Theorems.{Theorems}
+
+pub theorems : Theorems
+theorems =
+    record {
+      unpacked-packed = unpacked-packed;
+      packed-short = packed-short;
+      page-short = page-short;
+      longest = longest;
+      unpacked-long = unpacked-long;
+      examples = examples;
+    }

@@ -1,0 +1,4 @@
+pub mod Claim
+pub mod Turns
+pub mod Opened
+pub mod Theorems

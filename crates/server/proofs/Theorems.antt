@@ -1,0 +1,6 @@
+-- The one value of the record of theorems.
+use Rattle.server.specs.Theorems.{Theorems}
+use Rattle.server.proofs.Claim.{byte-claim, byte-still}
+
+pub theorems : Theorems
+theorems = record { byte-claim = byte-claim; byte-still = byte-still }

@@ -1,0 +1,168 @@
+-- The loop over the calls: what is left of them, made on the buffers as they are, gives what all of them give on the first buffers.
+use Prim.Native.Nat.{ℕ, zero, suc, _+_, _-_, _≤_, _<_}
+use mathlib.Core.Path.{_≡_, refl, sym, ap, subst, _∙_}
+use mathlib.Core.Bool.{Bool, true, false}
+use mathlib.Core.List.{List, [], _∷_, _++_, append-nil, map}
+use native.Mathlib.Omega.{arith}
+use native.Mathlib.Numerals.{add-one}
+use lib.ListN.{length, getD, set, take, replicate, length-set}
+use lib.Seq.{take-suc-set, append-snoc}
+use Rattle.slices.specs.Choose.{choose}
+use Rattle.spectrum.specs.declared.Machine.{Machine}
+use Rattle.spectrum.specs.Numbers.{numberOf}
+use Rattle.header.specs.Writing.{headerOf, HeaderFor}
+use Rattle.header.specs.Heads.{takenOf}
+use Rattle.header.proofs.Canonical.{header-taken, taken-is}
+use Rattle.journal.specs.declared.Call.{Call}
+use Rattle.journal.specs.declared.Call.the-variants.{Byte, Pair, Out, Undo, Redo}
+use Rattle.journal.specs.Model.{World, byteAt, pairTo, outTo, emptyBench, modelAfter, modelAnswers}
+use Rattle.journal.specs.Steps.{capacity}
+use Rattle.journal.specs.Journal.{Desk, Did, journalCorrect, journalUndo, journalRedo, journalCall}
+use Rattle.journal.specs.Claim.{Fit}
+use Rattle.replay.specs.Replay.{callAt, callsFrom, callCount, callsIn}
+use Rattle.replay.proofs.Turns.{calls-more, wide-all}
+use Rattle.spectrum.proofs.Numbers.{number-small}
+use Rattle.snapshot.specs.Files.{badHeader}
+use Rattle.snapshot.specs.Journal.{Buffers, Answered, deskFor, answeredBy, callOn, Leaves}
+use Rattle.server.specs.Server.{snapCall, runBuffers, runNumbers, startedBuffers, buffers, BenchBytes, Calls, RanBytes, ModelBytes, Untouched, Serves}
+use Rattle.server.proofs.Claim.{byte-claim, byte-still}
+
+-- what a call leaves, as one equation
+pub leaves-is : (x : Answered) (r : ℕ) (h a l : List ℕ) (s t : ℕ) → Leaves x r h a l s t → record { answer = r; left = buffers h a l s t } ≡ x
+leaves-is x r h a l s t e = λ k. record { answer = e .answer k; left = buffers (e .header k) (e .area k) (e .log k) (e .standing k) (e .total k) }
+
+-- every number answered is a byte
+answer-small : (f : Desk → Did) (b : Buffers) → callOn f b .answer < 256
+unfolding callOn
+answer-small f b = go (takenOf (b .header) .canonical)
+  where
+    made : Did
+    made = f (deskFor (takenOf (b .header) .machine) b)
+
+    go : (t : Bool) → choose t (answeredBy made) (record { answer = badHeader; left = b }) .answer < 256
+    go true = number-small (made .answer)
+    go false = omega arith
+
+pub number-fits : (f : Desk → Did) (b : Buffers) (r : ℕ) (h a l : List ℕ) (s t : ℕ) → Leaves (callOn f b) r h a l s t → r < 256
+number-fits f b r h a l s t e = omega (arith, e .answer, answer-small f b)
+
+pub record Going (calls : List ℕ) (n : ℕ) (x₀ x : Buffers) (numbers₀ numbers : List ℕ) (i : ℕ) : Type 0 where
+  pub reach : i ≤ n
+  pub fits : n ≤ length numbers₀
+  pub long : length numbers ≡ length numbers₀
+  pub rest : runBuffers snapCall x (callsFrom calls i (n - i)) ≡ runBuffers snapCall x₀ (callsFrom calls 0 n)
+  pub said : take i numbers ++ runNumbers snapCall x (callsFrom calls i (n - i)) ≡ runNumbers snapCall x₀ (callsFrom calls 0 n)
+
+pub going-none : (calls : List ℕ) (n : ℕ) (x : Buffers) (numbers : List ℕ) → n ≤ length numbers → Going calls n x x numbers numbers 0
+going-none calls n x numbers h =
+    let q : n - 0 ≡ n = omega arith in
+    record { reach = omega arith; fits = h; long = refl; rest = rw q; said = rw q }
+
+pub going-more : (calls : List ℕ) (n : ℕ) (x₀ x : Buffers) (numbers₀ numbers : List ℕ) (i : ℕ) (call : Call) (r : ℕ) (h a l : List ℕ) (s t : ℕ)
+    → Going calls n x₀ x numbers₀ numbers i → i < n → call ≡ callAt calls i → Leaves (snapCall call x) r h a l s t
+    → Going calls n x₀ (buffers h a l s t) numbers₀ (set numbers i r) (i + 1)
+going-more calls n x₀ x numbers₀ numbers i call r h a l s t g lt ec e =
+    let left = callsFrom calls (i + 1) (n - (i + 1)) in
+    let e2 : record { answer = r; left = buffers h a l s t } ≡ snapCall (callAt calls i) x = leaves-is _ r h a l s t e ∙ ap (λ (c : Call). snapCall c x) ec in
+    let more = runNumbers snapCall (buffers h a l s t) left in
+    record {
+      reach = omega arith;
+      fits = g .fits;
+      long = length-set numbers i r ∙ g .long;
+      rest = ap (λ (y : Answered). runBuffers snapCall (y .left) left) e2 ∙ sym (ap (runBuffers snapCall x) (calls-more calls i n lt)) ∙ g .rest;
+      said =
+          ap (λ (k : ℕ). take k (set numbers i r) ++ more) (add-one i)
+          ∙ ap (λ (z : List ℕ). z ++ more) (take-suc-set numbers i r (omega arith))
+          ∙ append-snoc (take i numbers) r more
+          ∙ ap (λ (y : Answered). take i numbers ++ (y .answer ∷ runNumbers snapCall (y .left) left)) e2
+          ∙ sym (ap (λ (z : List Call). take i numbers ++ runNumbers snapCall x z) (calls-more calls i n lt))
+          ∙ g .said;
+    }
+
+pub going-done : (calls : List ℕ) (n : ℕ) (x₀ x : Buffers) (numbers₀ numbers numbers′ : List ℕ) (i : ℕ)
+    → Going calls n x₀ x numbers₀ numbers i → n ≤ i → n ≡ callCount calls (length numbers₀)
+    → numbers′ ≡ take n numbers ++ replicate (length numbers - n) 0 → RanBytes calls (length numbers₀) x₀ x numbers′
+going-done calls n x₀ x numbers₀ numbers numbers′ i g h en e =
+    let z : n - i ≡ 0 = omega arith in
+    let q : i ≡ n = omega arith in
+    let a : take n numbers ++ [] ≡ runNumbers snapCall x₀ (callsFrom calls 0 n) = rw (z, q) at (g .said) in
+    record {
+      left = rw (← en) (rw z at (g .rest));
+      said = rw (← en) (e ∙ rw (g .long, ← a, append-nil));
+    }
+
+-- bytes that are no valid machine's header are not taken
+not-taken : (head : List ℕ) → ((i : ℕ) → getD head i 0 < 256) → ((m : Machine) → HeaderFor m head → ⊥) → takenOf head .canonical ≡ false
+not-taken head hb none = go (takenOf head .canonical) refl
+  where
+    go : (t : Bool) → takenOf head .canonical ≡ t → takenOf head .canonical ≡ false
+    go true e = absurd (none _ (taken-is head hb e))
+    go false e = e
+
+module _ (x : Buffers) (h : takenOf (x .header) .canonical ≡ false) where
+  call-other : (c : Call) → snapCall c x ≡ record { answer = badHeader; left = x }
+  unfolding callOn
+  call-other c = rw h
+
+  buffers-other : (cs : List Call) → runBuffers snapCall x cs ≡ x
+  buffers-other [] = refl
+  buffers-other (c ∷ cs) = ap (λ (y : Answered). runBuffers snapCall (y .left) cs) (call-other c) ∙ buffers-other cs
+
+  numbers-other : (b : List ℕ) (i k : ℕ) → runNumbers snapCall x (callsFrom b i k) ≡ replicate k badHeader
+  numbers-other b i zero = refl
+  numbers-other b i (suc k) =
+      ap (λ (y : Answered). y .answer ∷ runNumbers snapCall (y .left) (callsFrom b (suc i) k)) (call-other (callAt b i)) ∙ ap (λ (l : List ℕ). badHeader ∷ l) (numbers-other b (suc i) k)
+
+-- the promise of `serve`, from what its loop leaves
+pub serves : (head area log zeros calls : List ℕ) (room r s t : ℕ) (x : Buffers) (numbers : List ℕ)
+    → ((i : ℕ) → getD head i 0 < 256) → ((i : ℕ) → getD area i 0 < 256) → ((i : ℕ) → getD calls i 0 < 256)
+    → zeros ≡ replicate (length log) 0 → s ≡ 0 → t ≡ 0 → r ≡ callCount calls room
+    → RanBytes calls room (buffers head area zeros s t) x numbers → Serves head area log calls room r x numbers
+serves head area log zeros calls room r s t x numbers hb ab cb ez es et er g₀ =
+    let cs = callsIn calls room in
+    let left = room - callCount calls room in
+    let d : buffers head area zeros s t ≡ startedBuffers head area (length log) = λ k. buffers head area (ez k) (es k) (et k) in
+    let g : RanBytes calls room (startedBuffers head area (length log)) x numbers = subst (λ (y : Buffers). RanBytes calls room y x numbers) d g₀ in
+    record {
+      count = er;
+      ran = g;
+      claim = λ m f a.
+          let start : World = record { machine = m; memory = area } in
+          let fit : Fit start = record { valid = f .valid; area = a; typed = f .typed; bytes = ab } in
+          let q = byte-claim start log fit cs (wide-all calls cb 0 (callCount calls room)) in
+          let h : startedBuffers head area (length log) ≡ startedBuffers (headerOf m) area (length log) = λ k. startedBuffers (f .is k) area (length log) in
+          record {
+            left = subst (BenchBytes start (modelAfter start (capacity log) emptyBench cs)) (sym (g .left ∙ ap (λ (y : Buffers). runBuffers snapCall y cs) h)) (q .left);
+            said = g .said ∙ ap (λ (y : Buffers). runNumbers snapCall y cs ++ replicate left 0) h ∙ ap (λ (z : List ℕ). z ++ replicate left 0) (q .numbers);
+          };
+      other = λ none.
+          let v = not-taken head hb none in
+          record {
+            left = g .left ∙ buffers-other (startedBuffers head area (length log)) v cs;
+            said = g .said ∙ ap (λ (z : List ℕ). z ++ replicate left 0) (numbers-other (startedBuffers head area (length log)) v calls 0 (callCount calls room));
+          };
+    }
+
+-- the promise of `call_made`, by the function that makes the call
+module _ (call : Call) (b : Buffers) (hb : (i : ℕ) → getD (b .header) i 0 < 256) (r : ℕ) (h a l : List ℕ) (s t : ℕ) where
+  called : Leaves (snapCall call b) r h a l s t → Calls call b r (buffers h a l s t)
+  called p =
+      record {
+        leaves = p;
+        still = λ n. ap (λ (x : Answered). x .left) (leaves-is (snapCall call b) r h a l s t p) ∙ byte-still call b hb (λ z. n (p .answer ∙ z));
+      }
+
+  pub byte-made : (address v : ℕ) → call ≡ Byte address v → Leaves (callOn (journalCorrect (byteAt address v)) b) r h a l s t → Calls call b r (buffers h a l s t)
+  byte-made address v e q = called (rw e q)
+
+  pub pair-made : (p v : ℕ) → call ≡ Pair p v → Leaves (callOn (journalCorrect (pairTo p v)) b) r h a l s t → Calls call b r (buffers h a l s t)
+  pair-made p v e q = called (rw e q)
+
+  pub out-made : (v : ℕ) → call ≡ Out v → Leaves (callOn (journalCorrect (outTo v)) b) r h a l s t → Calls call b r (buffers h a l s t)
+  out-made v e q = called (rw e q)
+
+  pub undo-made : call ≡ Undo → Leaves (callOn journalUndo b) r h a l s t → Calls call b r (buffers h a l s t)
+  undo-made e q = called (rw e q)
+
+  pub redo-made : call ≡ Redo → Leaves (callOn journalRedo b) r h a l s t → Calls call b r (buffers h a l s t)
+  redo-made e q = called (rw e q)

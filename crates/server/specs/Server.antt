@@ -1,0 +1,92 @@
+-- Demand 3 of the exported calls: "there the machine crosses as the 86-byte v3 header that our writer makes for it". The buffers after every
+-- list of calls, and the paper bench's state as bytes.
+use Prim.Native.Nat.{ℕ, _+_, _-_}
+use mathlib.Core.Path.{_≡_}
+use mathlib.Core.List.{List, [], _∷_, _++_, map}
+use lib.ListN.{length, replicate}
+use Rattle.spectrum.specs.declared.Machine.{Machine}
+use Rattle.spectrum.specs.Numbers.{numberOf}
+use Rattle.header.specs.Writing.{headerOf, HeaderFor}
+use Rattle.journal.specs.declared.Call.{Call}
+use Rattle.journal.specs.Model.{World, Bench, made, emptyBench, modelAfter, modelAnswers}
+use Rattle.journal.specs.Steps.{capacity}
+use Rattle.journal.specs.Journal.{journalCall}
+use Rattle.journal.specs.Claim.{Fit, WideCalls}
+use Rattle.z80read.specs.Read.{readOf}
+use Rattle.replay.specs.Replay.{callCount, callsIn, numbersIn, startOf}
+use Rattle.snapshot.specs.Files.{badHeader, readOfBytes}
+use Rattle.snapshot.specs.Journal.{Buffers, Answered, callOn, Leaves}
+
+-- a call over bytes, as the contracts of the exported functions say it
+abbrev pub snapCall : Call → Buffers → Answered
+snapCall c b = callOn (journalCall c) b
+
+-- buffers after a list of calls, each made by f on what the last one left, and the numbers answered
+abbrev pub runBuffers : (Call → Buffers → Answered) → Buffers → List Call → Buffers
+runBuffers f b [] = b
+runBuffers f b (c ∷ cs) = runBuffers f (f c b .left) cs
+
+abbrev pub runNumbers : (Call → Buffers → Answered) → Buffers → List Call → List ℕ
+runNumbers f b [] = []
+runNumbers f b (c ∷ cs) = f c b .answer ∷ runNumbers f (f c b .left) cs
+
+abbrev pub buffers : List ℕ → List ℕ → List ℕ → ℕ → ℕ → Buffers
+buffers header area log standing total = record { header = header; area = area; log = log; standing = standing; total = total }
+
+-- "Starting .. sets the whole log to zero, standing and total to 0": a log of n bytes
+abbrev pub startedBuffers : List ℕ → List ℕ → ℕ → Buffers
+startedBuffers header area n = buffers header area (replicate n 0) 0 0
+
+-- buffers that hold what the paper bench says: the start with the standing corrections made afresh, how many stand, how many stand or wait
+pub record BenchBytes (start : World) (b : Bench) (x : Buffers) : Type 0 where
+  pub header : x .header ≡ headerOf (made start (b .applied) .machine)
+  pub area : x .area ≡ made start (b .applied) .memory
+  pub standing : x .standing ≡ length (b .applied)
+  pub total : x .total ≡ length (b .applied) + length (b .undone)
+
+-- the claim of a way f to make calls over bytes: after this list, from the header and the area of this start and this log just started,
+-- header, area, both numbers and every answer are the model's
+pub record ByteClaim (f : Call → Buffers → Answered) (start : World) (log : List ℕ) (calls : List Call) : Type 0 where
+  pub left : BenchBytes start (modelAfter start (capacity log) emptyBench calls)
+      (runBuffers f (startedBuffers (headerOf (start .machine)) (start .memory) (length log)) calls)
+  pub numbers : runNumbers f (startedBuffers (headerOf (start .machine)) (start .memory) (length log)) calls
+      ≡ map numberOf (modelAnswers start (capacity log) emptyBench calls)
+
+-- DEMAND 3, IN BYTES, of a way f to make calls
+abbrev pub ByteClaimOf : (Call → Buffers → Answered) → Type 0
+ByteClaimOf f = (start : World) (log : List ℕ) → Fit start → (calls : List Call) → WideCalls calls → ByteClaim f start log calls
+
+-- the promise of `call`: every number and byte is the definition's; refused, every buffer and both numbers are as they were
+pub record Calls (c : Call) (b : Buffers) (r : ℕ) (x : Buffers) : Type 0 where
+  pub leaves : Leaves (snapCall c b) r (x .header) (x .area) (x .log) (x .standing) (x .total)
+  pub still : (r ≡ 0 → ⊥) → x ≡ b
+
+-- What the calls leave, said by the calls' own definitions: every buffer, the number of every answer, and zeros past them.
+pub record RanBytes (b : List ℕ) (room : ℕ) (x₀ x : Buffers) (numbers : List ℕ) : Type 0 where
+  pub left : x ≡ runBuffers snapCall x₀ (callsIn b room)
+  pub said : numbers ≡ runNumbers snapCall x₀ (callsIn b room) ++ replicate (room - callCount b room) 0
+
+-- what the model says of a run from a start
+pub record ModelBytes (start : World) (log b : List ℕ) (room : ℕ) (x : Buffers) (numbers : List ℕ) : Type 0 where
+  pub left : BenchBytes start (modelAfter start (capacity log) emptyBench (callsIn b room)) x
+  pub said : numbers ≡ numbersIn (modelAnswers start (capacity log) emptyBench (callsIn b room)) (room - callCount b room)
+
+-- nothing is changed, and every call answers 20
+pub record Untouched (b : List ℕ) (room : ℕ) (x₀ x : Buffers) (numbers : List ℕ) : Type 0 where
+  pub left : x ≡ x₀
+  pub said : numbers ≡ replicate (callCount b room) badHeader ++ replicate (room - callCount b room) 0
+
+-- The promise of `serve`: on every input the calls' own answers on a log just started; from the header of any valid machine and an area of
+-- 131,072 bytes the model's; from bytes that are no valid machine's header nothing but 20.
+pub record Serves (head area log b : List ℕ) (room r : ℕ) (x : Buffers) (numbers : List ℕ) : Type 0 where
+  pub count : r ≡ callCount b room
+  pub ran : RanBytes b room (startedBuffers head area (length log)) x numbers
+  pub claim : (m : Machine) → HeaderFor m head → length area ≡ 131072 → ModelBytes (record { machine = m; memory = area }) log b room x numbers
+  pub other : ((m : Machine) → HeaderFor m head → ⊥) → Untouched b room (startedBuffers head area (length log)) x numbers
+
+-- The promise of `serve_file`, with an area of n bytes and a header of k: the number of the read, and every call on what it left; where that
+-- number is 0, all is the model's from the machine and memory that the file gives.
+pub record ServesFile (file : List ℕ) (n k : ℕ) (log b : List ℕ) (room r : ℕ) (x : Buffers) (numbers : List ℕ) : Type 0 where
+  pub answer : r ≡ readOfBytes file n k .answer
+  pub ran : RanBytes b room (startedBuffers (readOfBytes file n k .header) (readOfBytes file n k .area) (length log)) x numbers
+  pub claim : r ≡ 0 → ModelBytes (startOf (readOf file n)) log b room x numbers

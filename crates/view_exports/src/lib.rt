@@ -1,0 +1,23 @@
+// The page that `view::view` returns, copied out under a C name, for tests only.
+ghost use mathlib.Core.Path.{_≡_};
+ghost use lib.ListN.{length};
+ghost use Rattle.view_exports.specs.Viewed.{viewedOf, copied};
+
+// The page's length; the page in `out`, where it has room for it, and zeros after it.
+#[no_mangle]
+pub extern "C" fn view_page(head: &[u8], rom: &[u8], area: &[u8], page: u8, out: &mut [u8]) -> u64
+    ensures { λ r. ⌜ (r ≡ length (viewedOf (now (head .entry)) (now (rom .entry)) (now (area .entry)) page)) × (now (out .exit) ≡ copied (viewedOf (now (head .entry)) (now (rom .entry)) (now (area .entry)) page) (length (now (out .entry)))) ⌝ }
+{
+    slices::fill(out, 0);
+    let taken = header::take_header(head);
+    if taken.canonical {
+        let m = taken.machine;
+        let part = view::view(m, rom, area, page);
+        let n = part.len();
+        if n <= out.len() {
+            slices::put_at(out, 0, part);
+        }
+        return n as u64;
+    }
+    0
+}

@@ -1,0 +1,80 @@
+-- Demand 2 is false of each empty version: what is written of a 128K machine and an area of zeros does not come back.
+use Prim.Native.Nat.{ℕ, _-_}
+use mathlib.Core.Path.{_≡_, refl, sym, ap, _∙_}
+use mathlib.Core.List.{List, [], _++_, append-assoc, append-nil}
+use native.Mathlib.Omega.{arith}
+use lib.ListN.{length, take, replicate}
+use lib.Seq.{take-at, drop-at}
+use Rattle.slices.specs.Blank.{blank}
+use Rattle.spectrum.specs.declared.Model.the-variants.{K48, K128}
+use Rattle.spectrum.specs.declared.Refusal.the-variants.{FileShort, BlockMissing}
+use Rattle.spectrum.specs.declared.Answer.the-variants.{Refused}
+use Rattle.spectrum.specs.Machine.{blankMachine}
+use Rattle.spectrum.proofs.Validity.{valid-says}
+use Rattle.spectrum.proofs.Numbers.{refused-not}
+use Rattle.header.specs.declared.Version.the-variants.{V3}
+use Rattle.header.specs.declared.Head.{Head}
+use Rattle.header.specs.Reading.{machineOf}
+use Rattle.header.specs.Writing.{headerOf}
+use Rattle.header.proofs.WriteSteps.{header-length}
+use Rattle.header.proofs.Opened.{head-back}
+use Rattle.blocks.specs.Blocks.{Reading, refusal, allThere, blocks, blocksInto}
+use Rattle.z80read.specs.Read as R
+use Rattle.z80write.specs.Written as W
+use Rattle.z80write.proofs.Whole.{room}
+use Rattle.z80write.proofs.Longest.{file-most}
+use Rattle.z80file.specs.Clean.{Clean}
+use Rattle.z80file.specs.RoundTrip.{FilesOf}
+use Rattle.z80file.specs.Wrong.{refusesFiles, fixedMachine, inventsLength}
+use Rattle.z80file.proofs.Accepted.{clean-blank}
+use Rattle.z80file.proofs.Sample.{sample, sample-typed, sample-valid}
+
+area : List ℕ
+area = blank 131072
+
+clean : Clean (sample .model) area
+unfolding area
+clean = clean-blank (sample .model)
+
+-- what was written is refused, where it is to be accepted
+pub refuted-refuses-files : FilesOf refusesFiles W.writtenOf → ⊥
+unfolding refusesFiles
+refuted-refuses-files h = refused-not FileShort (ap (λ (o : R.Outcome). o .answer) (h .back sample area sample-typed sample-valid clean))
+
+-- the machine that is read is a 48K one, where a 128K one was written
+pub refuted-fixed-machine : FilesOf fixedMachine W.writtenOf → ⊥
+unfolding fixedMachine blankMachine sample
+refuted-fixed-machine h =
+    let e : K48 ≡ K128 = ap (λ (o : R.Outcome). o .machine .model) (h .back sample area sample-typed sample-valid clean) in
+    let z : _≡_ {A = ℕ} 0 1 = cc in omega arith
+
+-- of no blocks all eight are missing
+no-blocks : blocksInto (sample .model) (blank 131072) [] ≡ refusal BlockMissing
+unfolding sample blocksInto blocks allThere
+no-blocks = refl
+
+-- a header alone is refused
+header-alone : R.readOf (headerOf sample ++ []) 131072 .answer ≡ Refused BlockMissing
+unfolding R.readOf
+header-alone =
+    ap (λ (x : Head). R.afterHead x (headerOf sample ++ []) 131072 .answer) (head-back sample [] sample-typed (valid-says sample (sample-typed .sound) sample-valid))
+    ∙ ap (λ (x : List ℕ). R.outcomeOf (blocksInto (sample .model) (blank 131072) x) (machineOf V3 (sample .model) (sample .attachment) (headerOf sample ++ [])) 131072 .answer)
+    (drop-at (headerOf sample) [] 86 (header-length sample sample-typed))
+    ∙ ap (λ (x : Reading). R.outcomeOf x (machineOf V3 (sample .model) (sample .attachment) (headerOf sample ++ [])) 131072 .answer) no-blocks
+
+-- the first 86 bytes of what is written are the header
+front : take 86 (W.writtenOf sample area 131182 .out) ≡ headerOf sample ++ []
+front =
+    let tail = W.laid (W.slots (sample .model)) area in
+    let zs : List ℕ = replicate (131182 - length (W.fileOf sample area)) 0 in
+    ap (λ (o : W.Outcome). take 86 (o .out)) (room sample area 131182 sample-valid (clean .long) (file-most sample area sample-typed))
+    ∙ ap (take 86) (append-assoc (headerOf sample) tail zs)
+    ∙ take-at (headerOf sample) (tail ++ zs) 86 (header-length sample sample-typed)
+    ∙ sym (append-nil (headerOf sample))
+
+-- what is read are the 86 header bytes alone, which are refused for want of blocks, where they are to be accepted
+pub refuted-invented-length : FilesOf R.readOf inventsLength → ⊥
+unfolding inventsLength
+refuted-invented-length h =
+    refused-not BlockMissing
+    (sym header-alone ∙ ap (λ (l : List ℕ). R.readOf l 131072 .answer) (sym front) ∙ ap (λ (o : R.Outcome). o .answer) (h .back sample area sample-typed sample-valid clean))

@@ -1,0 +1,35 @@
+-- What is claimed of .Z80 files beyond the functions' contracts.
+use Prim.Native.Nat.{ℕ, _<_}
+use mathlib.Core.Path.{_≡_}
+use mathlib.Core.Bool.{true}
+use mathlib.Core.List.{List, map}
+use Rattle.spectrum.specs.declared.Machine.{Machine}
+use Rattle.spectrum.specs.declared.Model.{Model}
+use Rattle.spectrum.specs.declared.Answer.the-variants.{Accepted}
+use Rattle.spectrum.specs.Pages.{owned}
+use Rattle.spectrum.specs.Valid.{Typed, validOf}
+use Rattle.blocks.specs.declared.Page.the-variants.{At}
+use Rattle.blocks.specs.Blocks.{pageOf}
+use Rattle.z80read.specs.Read.{readOf}
+use Rattle.z80write.specs.Written.{fileOf, writtenOf}
+use Rattle.z80file.specs.Clean.{Clean, Start}
+use Rattle.z80file.specs.RoundTrip.{FilesOf}
+use Rattle.z80file.specs.Wrong.{refusesFiles, fixedMachine, inventsLength}
+use Rattle.z80file.specs.Cases.{table, computed, expected}
+
+pub record Theorems : Type 0 where
+  -- demand 2: reading and writing as they are defined, which `read` and `write` equal
+  pub files : FilesOf readOf writtenOf
+  -- "For a valid machine whose unused pages are zero, reading that file gives the machine and memory back."
+  pub file-back : (m : Machine) (area : List ℕ) → Typed m → validOf m ≡ true → Clean (m .model) area
+      → readOf (fileOf m area) 131072 ≡ record { answer = Accepted; machine = m; memory = area }
+  -- "An accepted read gives a valid machine, so an opened file is a start", and "sets pages that the machine does not own to zero"
+  pub read-start : (s : List ℕ) (n : ℕ) → readOf s n .answer ≡ Accepted → Start (readOf s n .machine) (readOf s n .memory) n
+  -- the page of a block number is one that the machine owns
+  pub owned-page : (model : Model) (n p : ℕ) → pageOf model n ≡ At p → (owned model p ≡ true) × (p < 8)
+  -- P1 to P12, "proved together as a single table under a single statement"
+  pub cases : map computed table ≡ map expected table
+  -- the empty versions of demand 2 do not meet it
+  pub refuted-refuses-files : FilesOf refusesFiles writtenOf → ⊥
+  pub refuted-fixed-machine : FilesOf fixedMachine writtenOf → ⊥
+  pub refuted-invented-length : FilesOf readOf inventsLength → ⊥

@@ -1,0 +1,20 @@
+-- The empty versions that document 01 names against demand 2, as ways to read and ways to write.
+use Prim.Native.Nat.{ℕ}
+use mathlib.Core.List.{List}
+use Rattle.spectrum.specs.declared.Machine.{Machine}
+use Rattle.spectrum.specs.declared.Refusal.the-variants.{FileShort}
+use Rattle.spectrum.specs.Machine.{blankMachine}
+use Rattle.z80read.specs.Read as R
+use Rattle.z80write.specs.Written as W
+
+-- "a reader that refuses everything"
+unfoldable pub refusesFiles : List ℕ → ℕ → R.Outcome
+refusesFiles s n = R.refusedRead FileShort n
+
+-- ".. or gives one fixed machine": right in all but the machine
+unfoldable pub fixedMachine : List ℕ → ℕ → R.Outcome
+fixedMachine s n = record { answer = R.readOf s n .answer; machine = blankMachine; memory = R.readOf s n .memory }
+
+-- "a writer with an invented length": right in all but the length
+unfoldable pub inventsLength : Machine → List ℕ → ℕ → W.Outcome
+inventsLength m area n = record { answer = W.writtenOf m area n .answer; size = 86; out = W.writtenOf m area n .out }

@@ -1,0 +1,39 @@
+-- The machine of an accepted read is as the types of the code say.
+use Prim.Native.Nat.{ℕ, _<_}
+use mathlib.Core.Path.{_≡_, refl}
+use mathlib.Core.Bool.{Bool, true, false}
+use mathlib.Core.List.{List}
+use lib.ListN.{getD}
+use lib.Dec.{eqb}
+use Rattle.slices.specs.Choose.{choose}
+use Rattle.slices.specs.Blank.{blank}
+use Rattle.spectrum.specs.declared.Machine.{Machine}
+use Rattle.spectrum.specs.declared.Refusal.the-variants.{AreaLength}
+use Rattle.spectrum.specs.declared.Answer.the-variants.{Accepted}
+use Rattle.spectrum.specs.Valid.{Typed}
+use Rattle.spectrum.proofs.Numbers.{refused-not}
+use Rattle.header.specs.declared.Head.{Head}
+use Rattle.header.specs.declared.Head.the-variants.{Header}
+use Rattle.header.specs.Reading.{machineOf}
+use Rattle.header.specs.Heads.{headOf}
+use Rattle.header.proofs.Opened.{opens}
+use Rattle.header.proofs.Typed.{machine-typed}
+use Rattle.blocks.specs.Blocks.{Reading, refusal, whole}
+use Rattle.z80read.specs.Read.{Outcome, memoryInto, refusedRead, outcomeOf, afterHead, readOf}
+
+outcome-typed : (x : Reading) (m : Machine) (n : ℕ) → Typed m → outcomeOf x m n .answer ≡ Accepted → Typed (outcomeOf x m n .machine)
+outcome-typed (refusal w) m n t e = absurd (refused-not w e)
+outcome-typed (whole area) m n t e = t
+
+pub read-typed : (s : List ℕ) (n : ℕ) → ((i : ℕ) → getD s i 0 < 256) → readOf s n .answer ≡ Accepted → Typed (readOf s n .machine)
+unfolding readOf
+read-typed s n h = go (eqb n 131072) (headOf s) refl
+  where
+    o : Bool → Head → Outcome
+    o t x = choose t (afterHead x s n) (refusedRead AreaLength n)
+
+    go : (t : Bool) (x : Head) → headOf s ≡ x → o t x .answer ≡ Accepted → Typed (o t x .machine)
+    go true (Head.Refused w) q e = absurd (refused-not w e)
+    go true (Header v k a) q e =
+        outcome-typed (memoryInto v k (blank 131072) s) (machineOf v k a s) n (machine-typed s h v k a (opens s (headOf s) v k a refl q .readable)) e
+    go false x q e = absurd (refused-not AreaLength e)

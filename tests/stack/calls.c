@@ -1,0 +1,56 @@
+/* One call of any exported function, from a description of it. */
+#include "stack.h"
+
+const char *const function_names[FUNCTIONS] = {
+    "snap_z80_read",     "snap_z80_write",   "snap_view", "snap_log_start", "snap_correct_byte",
+    "snap_correct_pair", "snap_correct_out", "snap_undo", "snap_redo",
+};
+
+int is_128(const uint8_t *header)
+{
+    return header[34] >= 4;
+}
+
+/* A call with all buffers at their proper lengths, and a log of 9 steps. */
+struct call usual(enum function function, const struct lent *lent)
+{
+    struct call call = {.function = function, .header_len = SNAP_HEADER_SIZE, .area_len = SNAP_AREA_SIZE};
+    call.log_len = 100;
+    call.out_len = SNAP_FILE_MOST;
+    call.rom_len = is_128(lent->header) ? SNAP_ROM_SIZE_128K : SNAP_ROM_SIZE_48K;
+    return call;
+}
+
+/* What every call on a log is lent. */
+#define LOGGED                                                                                                         \
+    lent->header, call->header_len, lent->area, call->area_len, lent->log, call->log_len, &lent->standing, &lent->total
+
+uint32_t make_call(struct lent *lent, const struct call *call)
+{
+    static const uint8_t rom[SNAP_ROM_SIZE_128K + 1];
+    switch (call->function) {
+    case READ:
+        return snap_z80_read(call->file, call->file_len, lent->area, call->area_len, lent->header, call->header_len);
+    case WRITE:
+        return snap_z80_write(lent->header, call->header_len, lent->area, call->area_len, lent->out, call->out_len,
+                              &lent->length);
+    case VIEW:
+        return snap_view(lent->header, call->header_len, rom, call->rom_len, lent->area, call->area_len,
+                         (uint8_t)call->place, &lent->in_rom, &lent->start, &lent->length);
+    case START:
+        return snap_log_start(lent->log, call->log_len, &lent->standing, &lent->total);
+    case BYTE:
+        return snap_correct_byte(LOGGED, call->place, (uint8_t)call->value);
+    case PAIR:
+        return snap_correct_pair(LOGGED, (uint8_t)call->place, call->value);
+    case OUT:
+        return snap_correct_out(LOGGED, (uint8_t)call->value);
+    case UNDO:
+        return snap_undo(LOGGED);
+    case REDO:
+        return snap_redo(LOGGED);
+    case FUNCTIONS:
+        break;
+    }
+    return ANY; /* no call: what the way there takes */
+}

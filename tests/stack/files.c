@@ -1,0 +1,118 @@
+/* Files to read: kept for the threads, tried with every wrong length of the buffers, and cut. */
+#include "stack.h"
+#include <stdio.h>
+#include <stdlib.h>
+#include <string.h>
+
+#define TABLE "tests/files/expected.txt"
+
+struct file files[FILES_MOST];
+unsigned file_count;
+
+static void stop(const char *what, const char *name)
+{
+    printf("FAIL %s: %s\n", name, what);
+    exit(1);
+}
+
+static const struct file *keep(const char *name, const uint8_t *bytes, size_t length)
+{
+    if (file_count == FILES_MOST)
+        stop("too many files", name);
+    struct file *file = &files[file_count++];
+    char *kept_name = malloc(strlen(name) + 1);
+    file->bytes = malloc(length + 1);
+    if (file->bytes == NULL || kept_name == NULL)
+        stop("no memory", name);
+    file->name = strcpy(kept_name, name);
+    file->length = length;
+    if (length > 0)
+        memcpy(file->bytes, bytes, length);
+    return file;
+}
+
+static struct call read_call(const struct file *file)
+{
+    struct call call = usual(READ, &ordinary);
+    call.file = file->bytes;
+    call.file_len = file->length;
+    return call;
+}
+
+/* Areas and header buffers of other lengths, and both. */
+static void try_read_lengths(const struct file *file)
+{
+    static const size_t areas[4] = {0, 1, SNAP_AREA_SIZE - 1, SNAP_AREA_SIZE + 1};
+    static const size_t headers[4] = {0, 30, SNAP_HEADER_SIZE - 1, SNAP_HEADER_SIZE + 1};
+    for (unsigned at = 0; at < 4; at++) {
+        struct call call = read_call(file);
+        call.area_len = areas[at];
+        try_call(file->name, &call, SNAP_AREA_LENGTH);
+        call.header_len = headers[at];
+        try_call(file->name, &call, SNAP_INVALID_MACHINE);
+        call.area_len = SNAP_AREA_SIZE;
+        try_call(file->name, &call, SNAP_INVALID_MACHINE);
+    }
+}
+
+/* No beginning of an accepted file is accepted. */
+static void try_cuts(const struct file *file)
+{
+    size_t step = file->length / 40 + 1;
+    struct call call = read_call(file);
+    for (call.file_len = 0; call.file_len < 90; call.file_len++)
+        try_call(file->name, &call, call.file_len < 30 ? SNAP_FILE_SHORT : REFUSED);
+    for (; call.file_len < file->length; call.file_len += step)
+        try_call(file->name, &call, REFUSED);
+    call.file_len = file->length - 1;
+    try_call(file->name, &call, REFUSED);
+}
+
+/* The file as it is; accepted, it is also cut, its area compared where it is known, and its machine used. */
+void try_file(const char *name, const uint8_t *bytes, size_t length, uint32_t due, const uint8_t *area)
+{
+    static const uint8_t zeros[SNAP_AREA_SIZE];
+    const struct file *file = keep(name, bytes, length);
+    struct call call = read_call(file);
+    try_read_lengths(file);
+    if (due == 0)
+        try_cuts(file);
+    try_call(file->name, &call, due);
+    if (due != 0)
+        area = zeros;
+    if (area != NULL)
+        expect(file->name, "the area is not what it must be", memcmp(ordinary.area, area, SNAP_AREA_SIZE) == 0);
+    if (due == 0)
+        use_machine(file->name);
+}
+
+/* The number that reading a stored file gives: the table's, and 0 for a sample. */
+static uint32_t due_of(const char *path)
+{
+    char name[100], sum[20];
+    unsigned number;
+    const char *last = strrchr(path, '/');
+    if (strncmp(path, "samples/", 8) == 0)
+        return 0;
+    FILE *table = fopen(TABLE, "r");
+    if (table == NULL || last == NULL)
+        stop("no " TABLE, path);
+    while (fscanf(table, "%99s %u %19s", name, &number, sum) == 3)
+        if (strcmp(name, last + 1) == 0) {
+            fclose(table);
+            return number;
+        }
+    stop("not in " TABLE, path);
+    return 0;
+}
+
+void try_stored(const char *path)
+{
+    static uint8_t bytes[1 << 20];
+    FILE *from = fopen(path, "rb");
+    if (from == NULL)
+        stop("cannot be opened", path);
+    size_t length = fread(bytes, 1, sizeof bytes, from);
+    fclose(from);
+    try_file(path, bytes, length, due_of(path), NULL);
+}

@@ -1,0 +1,85 @@
+/* stack.h: what the parts of the stack test share. Included first. */
+#ifndef STACK_H
+#define STACK_H
+
+/* For mapped stacks, contexts and signal stacks. */
+#define _DEFAULT_SOURCE
+#define _XOPEN_SOURCE 700
+#include "snapshot.h"
+
+#define STACK_SIZE 16384u
+/* Below each stack, where nothing may be touched: so wide that no local array of a wrong call reaches past it. */
+#define GUARD_SIZE 1048576u
+
+/* The exported functions. */
+enum function { READ, WRITE, VIEW, START, BYTE, PAIR, OUT, UNDO, REDO, FUNCTIONS };
+extern const char *const function_names[FUNCTIONS];
+
+/* The buffers lent to calls. Each has room for a length that is one too long. */
+struct lent {
+    uint8_t header[SNAP_HEADER_SIZE + 1], area[SNAP_AREA_SIZE + 1], log[SNAP_LOG_MOST + SNAP_LOG_STEP];
+    uint8_t out[SNAP_FILE_MOST + 1], in_rom;
+    uint64_t standing, total, length, start;
+};
+
+/* A call: its function, the file for a read, how much of each buffer is lent, and what is asked. */
+struct call {
+    enum function function;
+    const uint8_t *file;
+    size_t file_len, header_len, area_len, log_len, out_len, rom_len;
+    uint16_t place, value; /* place: the page of a view, an address, or a pair */
+};
+
+/* calls.c */
+int is_128(const uint8_t *header);
+struct call usual(enum function function, const struct lent *lent);
+uint32_t make_call(struct lent *lent, const struct call *call);
+
+/* small.c: a call on a stack of STACK_SIZE bytes; DIED where it ran past its end. */
+#define DIED SIZE_MAX
+uint8_t *new_stack(size_t size);
+void catch_faults(void (*elsewhere)(const uint8_t *address));
+void own_signal_stack(uint8_t *memory, size_t size);
+size_t call_on_small(struct lent *lent, const struct call *call, uint32_t *number);
+
+/* check.c: every call is made twice, on the ordinary stack with `ordinary` and on a small one with `small`. */
+#define ANY 1000u     /* whatever number the ordinary stack gives */
+#define REFUSED 1001u /* any number but 0 */
+extern struct lent ordinary;
+extern unsigned passed, failed;
+/* The call that is tried, and over which file. */
+extern struct trying {
+    const char *name, *function;
+} trying;
+void level(void);
+void try_call(const char *name, const struct call *call, uint32_t due);
+void expect(const char *name, const char *what, int holds);
+void close_check(int holds, const char *format, ...);
+void report_calls(void);
+
+/* files.c: the files to read, kept for the threads too. */
+#define FILES_MOST 400u
+struct file {
+    const char *name;
+    uint8_t *bytes;
+    size_t length;
+};
+extern struct file files[FILES_MOST];
+extern unsigned file_count;
+void try_file(const char *name, const uint8_t *bytes, size_t length, uint32_t due, const uint8_t *area);
+void try_stored(const char *path);
+
+/* made.c, reads.c */
+uint64_t next(uint64_t *seed);
+void try_made(void);
+
+/* machines.c, corrections.c: all that is done with a machine once it is read. */
+void use_machine(const char *name);
+void try_lengths(const char *name, struct call call);
+void try_log(const char *name, size_t log_len);
+
+/* threads.c */
+void tell_fault(const uint8_t *address);
+void try_threads(void);
+
+#endif
