@@ -5,7 +5,13 @@ ghost use Rattle.view_exports.specs.Viewed.{viewedOf, copied};
 
 // The page's length; the page in `out`, where it has room for it, and zeros after it.
 #[no_mangle]
-pub extern "C" fn view_page(head: &[u8], rom: &[u8], area: &[u8], page: u8, out: &mut [u8]) -> u64
+pub extern "C" fn view_page<'a>(
+    head: &[u8],
+    rom: &'a [u8],
+    area: &'a [u8],
+    page: u8,
+    out: &mut [u8],
+) -> u64
     ensures { λ r. ⌜ (r ≡ length (viewedOf (now (head .entry)) (now (rom .entry)) (now (area .entry)) page)) × (now (out .exit) ≡ copied (viewedOf (now (head .entry)) (now (rom .entry)) (now (area .entry)) page) (length (now (out .entry)))) ⌝ }
 {
     slices::fill(out, 0);
