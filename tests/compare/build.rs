@@ -3,7 +3,7 @@
 
 use std::path::Path;
 
-const ARCHIVES: [&str; 2] = ["packing_exports", "snapshot"];
+const ARCHIVES: [&str; 3] = ["packing_exports", "snapshot", "view_exports"];
 
 fn main() {
     let dir = std::env::var("STATICLIB_DIR").unwrap_or("../../target/staticlib".into());

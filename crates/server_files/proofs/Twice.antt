@@ -4,8 +4,7 @@ use mathlib.Core.Path.{_≡_, sym, ap, _∙_}
 use mathlib.Core.List.{List}
 use lib.ListN.{replicate}
 use Rattle.snapshot.specs.Files.{ReadBytes, WriteBytes, readOfBytes, writeOfBytes, ReadsBytes, WritesBytes}
-use Rattle.snapshot.specs.Journal.{Shown, Shows}
-use Rattle.server_files.specs.Twice.{ReadsTwo, WritesTwo, ViewsTwo, Starts, StartsTwo}
+use Rattle.server_files.specs.Twice.{ReadsTwo, WritesTwo, StartsTwo}
 
 pub reads-two : (file : List ℕ) (n k n′ k′ r r′ : ℕ) (area head area′ head′ : List ℕ) → ReadsBytes (readOfBytes file n k) r area head
     → ReadsBytes (readOfBytes file n′ k′) r′ area′ head′ → ReadsTwo file n k n′ k′ (record { one = r; other = r′ }) area head area′ head′
@@ -31,15 +30,6 @@ writes-two head area n n′ r r′ size size′ out out′ p q =
             p .answer ∙ ap (λ (x : WriteBytes). x .answer) s ∙ sym (q .answer),
             (p .size ∙ ap (λ (x : WriteBytes). x .size) s ∙ sym (q .size), p .out ∙ ap (λ (x : WriteBytes). x .out) s ∙ sym (q .out)),
           );
-    }
-
-pub views-two : (x : Shown) (r r′ rom start span rom′ start′ span′ : ℕ) → Shows x r rom start span → Shows x r′ rom′ start′ span′
-    → ViewsTwo x (record { one = r; other = r′ }) rom start span rom′ start′ span′
-views-two x r r′ rom start span rom′ start′ span′ p q =
-    record {
-      first = p;
-      second = q;
-      alike = (p .answer ∙ sym (q .answer), (p .rom ∙ sym (q .rom), (p .start ∙ sym (q .start), p .size ∙ sym (q .size))));
     }
 
 pub starts-two : (n n′ r r′ : ℕ) (log : List ℕ) (standing total : ℕ) (log′ : List ℕ) (standing′ total′ : ℕ)
