@@ -1,6 +1,6 @@
 -- 28 and 29 never come in a run from a fresh log: no answer of the model has these numbers, and the run's answers are the model's.
 use Prim.Native.Nat.{ℕ, _/_, _%_}
-use mathlib.Core.Path.{_≡_}
+use mathlib.Core.Path.{_≡_, sym, subst}
 use mathlib.Core.Bool.{Bool, true, false, not}
 use mathlib.Core.List.{List, [], _∷_}
 use native.Mathlib.Omega.{arith}
@@ -17,53 +17,60 @@ use Rattle.spectrum.specs.declared.Answer.the-variants.{Accepted, Refused}
 use Rattle.spectrum.specs.Numbers.{numberOf, refusalNumber}
 use Rattle.journal.specs.declared.Call.{Call}
 use Rattle.journal.specs.declared.Call.the-variants.{Byte, Pair, Out, Undo, Redo}
-use Rattle.journal.specs.Model.{World, Correction, byteAt, pairTo, outTo, placeIn, made, refuse, romFirst, outFirst, room, refusal, Bench, joins, modelUndo, modelRedo, modelCall, modelAnswers}
-use Rattle.replay.specs.Theorems.{Other, AllOther}
+use Rattle.journal.specs.Model.{World, Correction, byteAt, pairTo, outTo, placeIn, made, refuse, romFirst, outFirst, room, refusal, Bench, joins, modelUndo, modelRedo, modelCall, emptyBench, modelAnswers}
+use Rattle.journal.specs.Steps.{capacity}
+use Rattle.journal.specs.Journal.{journalCall}
+use Rattle.journal.specs.Claim.{Fit, WideCalls, started, runAnswers}
+use Rattle.journal.proofs.Claim.{claim}
+use Rattle.replay.specs.Theorems.{Not28Or29, NoneIs28Or29}
 
-refuse-other : (t : Bool) (why : Refusal) (a : Answer) → Other (refusalNumber why) → Other (numberOf a) → Other (numberOf (refuse t why a))
+refuse-other : (t : Bool) (why : Refusal) (a : Answer) → Not28Or29 (refusalNumber why) → Not28Or29 (numberOf a) → Not28Or29 (numberOf (refuse t why a))
 refuse-other true why a p q = p
 refuse-other false why a p q = q
 
-room-other : (cap n : ℕ) → Other (numberOf (room cap n))
+room-other : (cap n : ℕ) → Not28Or29 (numberOf (room cap n))
 room-other cap n = refuse-other (not (ltb n cap)) JournalFull Accepted (λ e. omega arith, λ e. omega arith) (λ e. omega arith, λ e. omega arith)
 
-rom-other : (p : Place) (a : Answer) → Other (numberOf a) → Other (numberOf (romFirst p a))
+rom-other : (p : Place) (a : Answer) → Not28Or29 (numberOf a) → Not28Or29 (numberOf (romFirst p a))
 rom-other Rom a q = (λ e. omega arith, λ e. omega arith)
 rom-other (Ram page offset) a q = q
 
-out-other : (k : Model) (out : ℕ) (a : Answer) → Other (numberOf a) → Other (numberOf (outFirst k out a))
+out-other : (k : Model) (out : ℕ) (a : Answer) → Not28Or29 (numberOf a) → Not28Or29 (numberOf (outFirst k out a))
 out-other K48 out a q = (λ e. omega arith, λ e. omega arith)
 out-other K128 out a q = refuse-other (eqb (out / 32 % 2) 1) PagingLocked a (λ e. omega arith, λ e. omega arith) q
 
-refusal-other : (cap : ℕ) (w : World) (n : ℕ) (c : Correction) → Other (numberOf (refusal cap w n c))
+refusal-other : (cap : ℕ) (w : World) (n : ℕ) (c : Correction) → Not28Or29 (numberOf (refusal cap w n c))
 unfolding refusal
 refusal-other cap w n (byteAt a v) = rom-other (placeIn (w .machine) a) (room cap n) (room-other cap n)
 refusal-other cap w n (pairTo p v) = refuse-other (ltb 11 p) PairNumber (room cap n) (λ e. omega arith, λ e. omega arith) (room-other cap n)
 refusal-other cap w n (outTo v) = out-other (w .machine .model) (w .machine .out7ffd) (room cap n) (room-other cap n)
 
-joins-other : (a : Answer) (c : Correction) (b : Bench) → Other (numberOf a) → Other (numberOf (joins a c b .answer))
+joins-other : (a : Answer) (c : Correction) (b : Bench) → Not28Or29 (numberOf a) → Not28Or29 (numberOf (joins a c b .answer))
 joins-other Accepted c b q = q
 joins-other (Refused why) c b q = q
 
-undo-other : (cs us : List Correction) → Other (numberOf (modelUndo cs us .answer))
+undo-other : (cs us : List Correction) → Not28Or29 (numberOf (modelUndo cs us .answer))
 undo-other [] us = (λ e. omega arith, λ e. omega arith)
 undo-other (c ∷ cs) us = (λ e. omega arith, λ e. omega arith)
 
-redo-other : (cs us : List Correction) → Other (numberOf (modelRedo cs us .answer))
+redo-other : (cs us : List Correction) → Not28Or29 (numberOf (modelRedo cs us .answer))
 redo-other cs [] = (λ e. omega arith, λ e. omega arith)
 redo-other cs (u ∷ us) = (λ e. omega arith, λ e. omega arith)
 
-correct-other : (start : World) (cap : ℕ) (b : Bench) (c : Correction) → Other (numberOf (joins (refusal cap (made start (b .applied)) (length (b .applied)) c) c b .answer))
+correct-other : (start : World) (cap : ℕ) (b : Bench) (c : Correction) → Not28Or29 (numberOf (joins (refusal cap (made start (b .applied)) (length (b .applied)) c) c b .answer))
 correct-other start cap b c =
     joins-other (refusal cap (made start (b .applied)) (length (b .applied)) c) c b (refusal-other cap (made start (b .applied)) (length (b .applied)) c)
 
-call-other : (start : World) (cap : ℕ) (b : Bench) (c : Call) → Other (numberOf (modelCall start cap b c .answer))
+call-other : (start : World) (cap : ℕ) (b : Bench) (c : Call) → Not28Or29 (numberOf (modelCall start cap b c .answer))
 call-other start cap b (Byte a v) = correct-other start cap b (byteAt a v)
 call-other start cap b (Pair p v) = correct-other start cap b (pairTo p v)
 call-other start cap b (Out v) = correct-other start cap b (outTo v)
 call-other start cap b Undo = undo-other (b .applied) (b .undone)
 call-other start cap b Redo = redo-other (b .applied) (b .undone)
 
-pub never-28-29 : (start : World) (cap : ℕ) (b : Bench) (calls : List Call) → AllOther (modelAnswers start cap b calls)
-never-28-29 start cap b [] = tt
-never-28-29 start cap b (c ∷ cs) = (call-other start cap b c, never-28-29 start cap (modelCall start cap b c .bench) cs)
+model-never : (start : World) (cap : ℕ) (b : Bench) (calls : List Call) → NoneIs28Or29 (modelAnswers start cap b calls)
+model-never start cap b [] = tt
+model-never start cap b (c ∷ cs) = (call-other start cap b c, model-never start cap (modelCall start cap b c .bench) cs)
+
+pub never-28-29 : (start : World) (log : List ℕ) → Fit start → (calls : List Call) → WideCalls calls → NoneIs28Or29 (runAnswers journalCall (started start log) calls)
+never-28-29 start log ok calls wide = subst NoneIs28Or29 (sym (claim start log ok calls wide .answers)) (model-never start (capacity log) emptyBench calls)

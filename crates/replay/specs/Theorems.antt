@@ -7,8 +7,9 @@ use Rattle.spectrum.specs.declared.Answer.{Answer}
 use Rattle.spectrum.specs.Numbers.{numberOf}
 use Rattle.journal.specs.declared.Call.{Call}
 use Rattle.journal.specs.declared.Call.the-variants.{Byte, Pair, Out, Undo, Redo}
-use Rattle.journal.specs.Model.{World, Correction, make, made, Bench, modelAnswers}
-use Rattle.journal.specs.Claim.{ClaimOf}
+use Rattle.journal.specs.Model.{World, Correction, make, made}
+use Rattle.journal.specs.Journal.{journalCall}
+use Rattle.journal.specs.Claim.{Fit, WideCalls, started, runAnswers, ClaimOf}
 use Rattle.replay.specs.Replay.{encode, callsIn}
 use Rattle.replay.specs.Wrong.{alwaysRefuses, altersNothing, undoesOnce, inventsCounts, redoesNothing}
 
@@ -26,23 +27,24 @@ abbrev pub afresh : World → List Correction → World
 afresh w [] = w
 afresh w (c ∷ cs) = afresh (make c w) cs
 
--- neither 28 nor 29
-abbrev pub Other : ℕ → Type 0
-Other n = (n ≡ 28 → ⊥) × (n ≡ 29 → ⊥)
+abbrev pub Not28Or29 : ℕ → Type 0
+Not28Or29 n = (n ≡ 28 → ⊥) × (n ≡ 29 → ⊥)
 
-abbrev pub AllOther : List Answer → Type 0
-AllOther [] = Unit {0}
-AllOther (a ∷ more) = Other (numberOf a) × AllOther more
+-- of every answer of a list
+abbrev pub NoneIs28Or29 : List Answer → Type 0
+NoneIs28Or29 [] = Unit {0}
+NoneIs28Or29 (a ∷ more) = Not28Or29 (numberOf a) × NoneIs28Or29 more
 
 pub record Theorems : Type 0 where
-  -- every list of calls is what some bytes say, four to a call, so the contract of `replay` speaks of every list
+  -- every list of calls is what some bytes say, four to a call, so the contracts of `replay` and `serve` speak of every list
   pub every-list-in : (cs : List Call) → callsIn (encode cs) (length cs) ≡ cs
   pub encode-length : (cs : List Call) → length (encode cs) ≡ length cs * 4
   pub encode-bytes : (cs : List Call) → TypedCalls cs → (i : ℕ) → getD (encode cs) i 0 < 256
   -- "with the standing corrections made afresh in order": the head of the applied ones is the last
   pub first-to-last : (w : World) (cs : List Correction) → afresh w (reverse cs) ≡ made w cs
   -- "28 and 29 never come in such a run"
-  pub never-28-29 : (start : World) (cap : ℕ) (b : Bench) (calls : List Call) → AllOther (modelAnswers start cap b calls)
+  pub never-28-29 : (start : World) (log : List ℕ) → Fit start → (calls : List Call) → WideCalls calls
+      → NoneIs28Or29 (runAnswers journalCall (started start log) calls)
   -- the empty versions of demand 3 do not meet it
   pub refuted-refuses : ClaimOf alwaysRefuses → ⊥
   pub refuted-alters-nothing : ClaimOf altersNothing → ⊥

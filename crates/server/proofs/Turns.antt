@@ -24,7 +24,7 @@ use Rattle.replay.proofs.Turns.{calls-more, wide-all}
 use Rattle.spectrum.proofs.Numbers.{number-small}
 use Rattle.snapshot.specs.Files.{badHeader}
 use Rattle.snapshot.specs.Journal.{Buffers, Answered, deskFor, answeredBy, callOn, Leaves}
-use Rattle.server.specs.Server.{snapCall, runBuffers, runNumbers, startedBuffers, buffers, BenchBytes, Calls, RanBytes, ModelBytes, Untouched, Serves}
+use Rattle.server.specs.Server.{snapCall, runBuffers, runNumbers, startedBuffers, buffers, BenchBytes, CallMade, RanBytes, ModelBytes, Untouched, Serves}
 use Rattle.server.proofs.Claim.{byte-claim, byte-still}
 
 -- what a call leaves, as one equation
@@ -135,7 +135,7 @@ serves head area log zeros calls room r s t x numbers hb ab cb ez es et er g₀ 
             left = subst (BenchBytes start (modelAfter start (capacity log) emptyBench cs)) (sym (g .left ∙ ap (λ (y : Buffers). runBuffers snapCall y cs) h)) (q .left);
             said = g .said ∙ ap (λ (y : Buffers). runNumbers snapCall y cs ++ replicate left 0) h ∙ ap (λ (z : List ℕ). z ++ replicate left 0) (q .numbers);
           };
-      other = λ none.
+      not-ours = λ none.
           let v = not-taken head hb none in
           record {
             left = g .left ∙ buffers-other (startedBuffers head area (length log)) v cs;
@@ -145,24 +145,24 @@ serves head area log zeros calls room r s t x numbers hb ab cb ez es et er g₀ 
 
 -- the promise of `call_made`, by the function that makes the call
 module _ (call : Call) (b : Buffers) (hb : (i : ℕ) → getD (b .header) i 0 < 256) (r : ℕ) (h a l : List ℕ) (s t : ℕ) where
-  called : Leaves (snapCall call b) r h a l s t → Calls call b r (buffers h a l s t)
+  called : Leaves (snapCall call b) r h a l s t → CallMade call b r (buffers h a l s t)
   called p =
       record {
         leaves = p;
         still = λ n. ap (λ (x : Answered). x .left) (leaves-is (snapCall call b) r h a l s t p) ∙ byte-still call b hb (λ z. n (p .answer ∙ z));
       }
 
-  pub byte-made : (address v : ℕ) → call ≡ Byte address v → Leaves (callOn (journalCorrect (byteAt address v)) b) r h a l s t → Calls call b r (buffers h a l s t)
+  pub byte-made : (address v : ℕ) → call ≡ Byte address v → Leaves (callOn (journalCorrect (byteAt address v)) b) r h a l s t → CallMade call b r (buffers h a l s t)
   byte-made address v e q = called (rw e q)
 
-  pub pair-made : (p v : ℕ) → call ≡ Pair p v → Leaves (callOn (journalCorrect (pairTo p v)) b) r h a l s t → Calls call b r (buffers h a l s t)
+  pub pair-made : (p v : ℕ) → call ≡ Pair p v → Leaves (callOn (journalCorrect (pairTo p v)) b) r h a l s t → CallMade call b r (buffers h a l s t)
   pair-made p v e q = called (rw e q)
 
-  pub out-made : (v : ℕ) → call ≡ Out v → Leaves (callOn (journalCorrect (outTo v)) b) r h a l s t → Calls call b r (buffers h a l s t)
+  pub out-made : (v : ℕ) → call ≡ Out v → Leaves (callOn (journalCorrect (outTo v)) b) r h a l s t → CallMade call b r (buffers h a l s t)
   out-made v e q = called (rw e q)
 
-  pub undo-made : call ≡ Undo → Leaves (callOn journalUndo b) r h a l s t → Calls call b r (buffers h a l s t)
+  pub undo-made : call ≡ Undo → Leaves (callOn journalUndo b) r h a l s t → CallMade call b r (buffers h a l s t)
   undo-made e q = called (rw e q)
 
-  pub redo-made : call ≡ Redo → Leaves (callOn journalRedo b) r h a l s t → Calls call b r (buffers h a l s t)
+  pub redo-made : call ≡ Redo → Leaves (callOn journalRedo b) r h a l s t → CallMade call b r (buffers h a l s t)
   redo-made e q = called (rw e q)

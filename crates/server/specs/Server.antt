@@ -56,37 +56,37 @@ pub record ByteClaim (f : Call → Buffers → Answered) (start : World) (log : 
 abbrev pub ByteClaimOf : (Call → Buffers → Answered) → Type 0
 ByteClaimOf f = (start : World) (log : List ℕ) → Fit start → (calls : List Call) → WideCalls calls → ByteClaim f start log calls
 
--- the promise of `call`: every number and byte is the definition's; refused, every buffer and both numbers are as they were
-pub record Calls (c : Call) (b : Buffers) (r : ℕ) (x : Buffers) : Type 0 where
+-- the promise of `call_made`: every number and byte is the definition's; refused, every buffer and both numbers are as they were
+pub record CallMade (c : Call) (b : Buffers) (r : ℕ) (x : Buffers) : Type 0 where
   pub leaves : Leaves (snapCall c b) r (x .header) (x .area) (x .log) (x .standing) (x .total)
   pub still : (r ≡ 0 → ⊥) → x ≡ b
 
 -- What the calls leave, said by the calls' own definitions: every buffer, the number of every answer, and zeros past them.
-pub record RanBytes (b : List ℕ) (room : ℕ) (x₀ x : Buffers) (numbers : List ℕ) : Type 0 where
-  pub left : x ≡ runBuffers snapCall x₀ (callsIn b room)
-  pub said : numbers ≡ runNumbers snapCall x₀ (callsIn b room) ++ replicate (room - callCount b room) 0
+pub record RanBytes (encoded : List ℕ) (room : ℕ) (x₀ x : Buffers) (numbers : List ℕ) : Type 0 where
+  pub left : x ≡ runBuffers snapCall x₀ (callsIn encoded room)
+  pub said : numbers ≡ runNumbers snapCall x₀ (callsIn encoded room) ++ replicate (room - callCount encoded room) 0
 
--- what the model says of a run from a start
-pub record ModelBytes (start : World) (log b : List ℕ) (room : ℕ) (x : Buffers) (numbers : List ℕ) : Type 0 where
-  pub left : BenchBytes start (modelAfter start (capacity log) emptyBench (callsIn b room)) x
-  pub said : numbers ≡ numbersIn (modelAnswers start (capacity log) emptyBench (callsIn b room)) (room - callCount b room)
+-- what the model says of a run from a start: the buffers, and the number of every answer
+pub record ModelBytes (start : World) (log encoded : List ℕ) (room : ℕ) (x : Buffers) (numbers : List ℕ) : Type 0 where
+  pub left : BenchBytes start (modelAfter start (capacity log) emptyBench (callsIn encoded room)) x
+  pub said : numbers ≡ numbersIn (modelAnswers start (capacity log) emptyBench (callsIn encoded room)) (room - callCount encoded room)
 
--- nothing is changed, and every call answers 20
-pub record Untouched (b : List ℕ) (room : ℕ) (x₀ x : Buffers) (numbers : List ℕ) : Type 0 where
+-- after the start of the log nothing is changed, and every call answers 20
+pub record Untouched (encoded : List ℕ) (room : ℕ) (x₀ x : Buffers) (numbers : List ℕ) : Type 0 where
   pub left : x ≡ x₀
-  pub said : numbers ≡ replicate (callCount b room) badHeader ++ replicate (room - callCount b room) 0
+  pub said : numbers ≡ replicate (callCount encoded room) badHeader ++ replicate (room - callCount encoded room) 0
 
--- The promise of `serve`: on every input the calls' own answers on a log just started; from the header of any valid machine and an area of
+-- The promise of `serve`, with room for that many numbers; r calls are made. On every input the calls' own answers on a log just started; from the header of any valid machine and an area of
 -- 131,072 bytes the model's; from bytes that are no valid machine's header nothing but 20.
-pub record Serves (head area log b : List ℕ) (room r : ℕ) (x : Buffers) (numbers : List ℕ) : Type 0 where
-  pub count : r ≡ callCount b room
-  pub ran : RanBytes b room (startedBuffers head area (length log)) x numbers
-  pub claim : (m : Machine) → HeaderFor m head → length area ≡ 131072 → ModelBytes (record { machine = m; memory = area }) log b room x numbers
-  pub other : ((m : Machine) → HeaderFor m head → ⊥) → Untouched b room (startedBuffers head area (length log)) x numbers
+pub record Serves (head area log encoded : List ℕ) (room r : ℕ) (x : Buffers) (numbers : List ℕ) : Type 0 where
+  pub count : r ≡ callCount encoded room
+  pub ran : RanBytes encoded room (startedBuffers head area (length log)) x numbers
+  pub claim : (m : Machine) → HeaderFor m head → length area ≡ 131072 → ModelBytes (record { machine = m; memory = area }) log encoded room x numbers
+  pub not-ours : ((m : Machine) → HeaderFor m head → ⊥) → Untouched encoded room (startedBuffers head area (length log)) x numbers
 
 -- The promise of `serve_file`, with an area of n bytes and a header of k: the number of the read, and every call on what it left; where that
 -- number is 0, all is the model's from the machine and memory that the file gives.
-pub record ServesFile (file : List ℕ) (n k : ℕ) (log b : List ℕ) (room r : ℕ) (x : Buffers) (numbers : List ℕ) : Type 0 where
+pub record ServesFile (file : List ℕ) (n k : ℕ) (log encoded : List ℕ) (room r : ℕ) (x : Buffers) (numbers : List ℕ) : Type 0 where
   pub answer : r ≡ readOfBytes file n k .answer
-  pub ran : RanBytes b room (startedBuffers (readOfBytes file n k .header) (readOfBytes file n k .area) (length log)) x numbers
-  pub claim : r ≡ 0 → ModelBytes (startOf (readOf file n)) log b room x numbers
+  pub ran : RanBytes encoded room (startedBuffers (readOfBytes file n k .header) (readOfBytes file n k .area) (length log)) x numbers
+  pub claim : r ≡ 0 → ModelBytes (startOf (readOf file n)) log encoded room x numbers

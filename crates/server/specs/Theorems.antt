@@ -9,5 +9,5 @@ use Rattle.server.specs.Server.{snapCall, ByteClaimOf}
 pub record Theorems : Type 0 where
   -- demand 3, of the exported calls as their contracts say them
   pub byte-claim : ByteClaimOf snapCall
-  -- "The other calls change nothing when refused": no byte of header, area and log and neither number, in all five calls and on every input
+  -- "The other calls change nothing when refused": no byte of header, area and log and neither number, in all five calls, whatever bytes the buffers hold
   pub byte-still : (c : Call) (b : Buffers) → ((i : ℕ) → getD (b .header) i 0 < 256) → (snapCall c b .answer ≡ 0 → ⊥) → snapCall c b .left ≡ b

@@ -1,7 +1,7 @@
 // Demand 3 of the functions that a C program calls: a list of calls, as bytes, each made by the exported function.
 use journal::Call;
 ghost use lib.ListN.{length};
-ghost use Rattle.server.specs.Server.{buffers, Calls, Serves, ServesFile};
+ghost use Rattle.server.specs.Server.{buffers, CallMade, Serves, ServesFile};
 
 // A log is started and every call of a list made, each on the bytes that the last one left. From the header of any valid machine, an
 // area of 131,072 bytes and a log of any length, all is the model's: this contract is the claim.
@@ -57,7 +57,7 @@ pub fn call_made(
     total: &mut u64,
     call: Call,
 ) -> u32
-    ensures { λ r. ⌜ Calls call (buffers (now (head .entry)) (now (area .entry)) (now (log .entry)) (now (standing .entry)) (now (total .entry))) r (buffers (now (head .exit)) (now (area .exit)) (now (log .exit)) (now (standing .exit)) (now (total .exit))) ⌝ }
+    ensures { λ r. ⌜ CallMade call (buffers (now (head .entry)) (now (area .entry)) (now (log .entry)) (now (standing .entry)) (now (total .entry))) r (buffers (now (head .exit)) (now (area .exit)) (now (log .exit)) (now (standing .exit)) (now (total .exit))) ⌝ }
 {
     match call {
         Call::Byte(address, v) => {

@@ -4,7 +4,7 @@ use mathlib.Core.Path.{_≡_, sym, ap, _∙_}
 use mathlib.Core.List.{List}
 use lib.ListN.{replicate}
 use Rattle.snapshot.specs.Files.{ReadBytes, WriteBytes, readOfBytes, writeOfBytes, ReadsBytes, WritesBytes}
-use Rattle.server_files.specs.Twice.{ReadsTwo, WritesTwo, StartsTwo}
+use Rattle.server_files.specs.Twice.{ReadsTwo, WritesTwo, LogStartsTwo}
 
 pub reads-two : (file : List ℕ) (n k n′ k′ r r′ : ℕ) (area head area′ head′ : List ℕ) → ReadsBytes (readOfBytes file n k) r area head
     → ReadsBytes (readOfBytes file n′ k′) r′ area′ head′ → ReadsTwo file n k n′ k′ (record { one = r; other = r′ }) area head area′ head′
@@ -34,7 +34,7 @@ writes-two head area n n′ r r′ size size′ out out′ p q =
 
 pub starts-two : (n n′ r r′ : ℕ) (log : List ℕ) (standing total : ℕ) (log′ : List ℕ) (standing′ total′ : ℕ)
     → (r ≡ 0) × ((log ≡ replicate n 0) × ((standing ≡ 0) × (total ≡ 0))) → (r′ ≡ 0) × ((log′ ≡ replicate n′ 0) × ((standing′ ≡ 0) × (total′ ≡ 0)))
-    → StartsTwo n n′ (record { one = r; other = r′ }) log standing total log′ standing′ total′
+    → LogStartsTwo n n′ (record { one = r; other = r′ }) log standing total log′ standing′ total′
 starts-two n n′ r r′ log standing total log′ standing′ total′ p q =
     record {
       first = record { answer = p .0; log-zero = p .1 .0; standing-0 = p .1 .1 .0; total-0 = p .1 .1 .1 };

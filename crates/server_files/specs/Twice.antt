@@ -28,14 +28,14 @@ pub record ViewsTwo (x : Shown) (r : Two) (rom start span rom′ start′ span�
   pub alike : (r .one ≡ r .other) × ((rom ≡ rom′) × ((start ≡ start′) × (span ≡ span′)))
 
 -- "Starting is never refused; it sets the whole log to zero, standing and total to 0", of a log of n bytes
-pub record Starts (n r : ℕ) (log : List ℕ) (standing total : ℕ) : Type 0 where
+pub record LogStarts (n r : ℕ) (log : List ℕ) (standing total : ℕ) : Type 0 where
   pub answer : r ≡ 0
   pub log-zero : log ≡ replicate n 0
   pub standing-0 : standing ≡ 0
   pub total-0 : total ≡ 0
 
 -- the promise of `start_two`
-pub record StartsTwo (n n′ : ℕ) (r : Two) (log : List ℕ) (standing total : ℕ) (log′ : List ℕ) (standing′ total′ : ℕ) : Type 0 where
-  pub first : Starts n (r .one) log standing total
-  pub second : Starts n′ (r .other) log′ standing′ total′
+pub record LogStartsTwo (n n′ : ℕ) (r : Two) (log : List ℕ) (standing total : ℕ) (log′ : List ℕ) (standing′ total′ : ℕ) : Type 0 where
+  pub first : LogStarts n (r .one) log standing total
+  pub second : LogStarts n′ (r .other) log′ standing′ total′
   pub alike : n ≡ n′ → (r .one ≡ r .other) × ((log ≡ log′) × ((standing ≡ standing′) × (total ≡ total′)))

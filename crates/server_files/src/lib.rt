@@ -3,7 +3,7 @@
 ghost use lib.ListN.{length};
 ghost use Rattle.snapshot.specs.Journal.{showOf};
 ghost use Rattle.server_files.specs.Trips.{WritesThenReads, ReadsThenWrites};
-ghost use Rattle.server_files.specs.Twice.{ReadsTwo, WritesTwo, ViewsTwo, StartsTwo};
+ghost use Rattle.server_files.specs.Twice.{ReadsTwo, WritesTwo, ViewsTwo, LogStartsTwo};
 
 // The numbers of a write and of a read.
 pub struct Trip {
@@ -124,7 +124,7 @@ pub fn start_two(
     standing2: &mut u64,
     total2: &mut u64,
 ) -> Two
-    ensures { λ r. ⌜ StartsTwo (length (now (log .entry))) (length (now (log2 .entry))) r (now (log .exit)) (now (standing .exit)) (now (total .exit)) (now (log2 .exit)) (now (standing2 .exit)) (now (total2 .exit)) ⌝ }
+    ensures { λ r. ⌜ LogStartsTwo (length (now (log .entry))) (length (now (log2 .entry))) r (now (log .exit)) (now (standing .exit)) (now (total .exit)) (now (log2 .exit)) (now (standing2 .exit)) (now (total2 .exit)) ⌝ }
 {
     let started = snapshot::snap_log_start(log, standing, total);
     let restarted = snapshot::snap_log_start(log2, standing2, total2);

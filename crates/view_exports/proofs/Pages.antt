@@ -18,7 +18,7 @@ use Rattle.view.specs.declared.Part.{Part}
 use Rattle.view.specs.declared.Part.the-variants.{Nowhere, InArea, InRom}
 use Rattle.view.specs.View.{viewAnswer, partFor, bytesOf, viewOf}
 use Rattle.snapshot.specs.Journal.{Shown, shownAs, showTaken, showOf}
-use Rattle.view_exports.specs.Viewed.{viewTaken, viewedOf, copied}
+use Rattle.view_exports.specs.Viewed.{viewTaken, viewedOf, pageInto}
 
 -- the bytes that a view points at
 abbrev pointed : Shown → List ℕ → List ℕ → List ℕ
@@ -58,14 +58,14 @@ module _ (head rom area : List ℕ) (k : ℕ) (zeros : List ℕ) (page : ℕ) (t
   unfolding viewed viewedOf
   taken-view c = ap (λ (x : Taken). viewTaken x rom area page) (sym et) ∙ rw c
 
-  pub page-none : t .canonical ≡ false → (0 ≡ length (viewedOf head rom area page)) × (zeros ≡ copied (viewedOf head rom area page) k)
+  pub page-none : t .canonical ≡ false → (0 ≡ length (viewedOf head rom area page)) × (zeros ≡ pageInto (viewedOf head rom area page) k)
   unfolding viewedOf
   page-none c =
       let z : k - 0 ≡ k = omega arith in
-      let none : copied [] k ≡ replicate k 0 = rw (le-leb 0 k (omega arith)) (ap (λ (i : ℕ). replicate {A = ℕ} i 0) z) in
+      let none : pageInto [] k ≡ replicate k 0 = rw (le-leb 0 k (omega arith)) (ap (λ (i : ℕ). replicate {A = ℕ} i 0) z) in
       let e : viewTaken (takenOf head) rom area page ≡ [] = ap (λ (x : Taken). viewTaken x rom area page) (sym et) ∙ rw c in (
         sym (ap length e),
-        ez ∙ sym (ap (λ (l : List ℕ). copied l k) e ∙ none),
+        ez ∙ sym (ap (λ (l : List ℕ). pageInto l k) e ∙ none),
       )
 
   module _ (part : List ℕ) (r : ℕ) (c : t .canonical ≡ true) (ep : part ≡ viewOf (t .machine) rom area page) (er : r ≡ length part) where
@@ -73,16 +73,16 @@ module _ (head rom area : List ℕ) (k : ℕ) (zeros : List ℕ) (page : ℕ) (t
     is = ep ∙ sym (taken-view c)
 
     pub page-fits : (out : List ℕ) → length part ≤ length zeros → out ≡ put zeros 0 part
-        → (r ≡ length (viewedOf head rom area page)) × (out ≡ copied (viewedOf head rom area page) k)
+        → (r ≡ length (viewedOf head rom area page)) × (out ≡ pageInto (viewedOf head rom area page) k)
     unfolding viewed
     page-fits out h e =
         let l : length part ≤ k = omega (arith, ap length ez, length-replicate {A = ℕ} k 0) in
-        let q : out ≡ copied part k = e ∙ put-zero zeros part (length part) refl ∙ ap (λ (z : List ℕ). part ++ drop (length part) z) ez
+        let q : out ≡ pageInto part k = e ∙ put-zero zeros part (length part) refl ∙ ap (λ (z : List ℕ). part ++ drop (length part) z) ez
         ∙ ap (λ (z : List ℕ). part ++ z) (rest-zero (length part) k l) ∙ sym (rw (le-leb (length part) k l)) in
-        (er ∙ ap length is, q ∙ ap (λ (x : List ℕ). copied x k) is)
+        (er ∙ ap length is, q ∙ ap (λ (x : List ℕ). pageInto x k) is)
 
-    pub page-over : length zeros < length part → (r ≡ length (viewedOf head rom area page)) × (zeros ≡ copied (viewedOf head rom area page) k)
+    pub page-over : length zeros < length part → (r ≡ length (viewedOf head rom area page)) × (zeros ≡ pageInto (viewedOf head rom area page) k)
     unfolding viewed
     page-over h =
         let l : k < length part = omega (arith, ap length ez, length-replicate {A = ℕ} k 0) in
-        (er ∙ ap length is, ez ∙ sym (rw (lt-leb (length part) k l)) ∙ ap (λ (x : List ℕ). copied x k) is)
+        (er ∙ ap length is, ez ∙ sym (rw (lt-leb (length part) k l)) ∙ ap (λ (x : List ℕ). pageInto x k) is)

@@ -16,5 +16,5 @@ unfoldable pub viewedOf : List ℕ → List ℕ → List ℕ → ℕ → List �
 viewedOf head rom area page = viewTaken (takenOf head) rom area page
 
 -- bytes in n bytes, and zeros after them; where they do not fit, zeros
-abbrev pub copied : List ℕ → ℕ → List ℕ
-copied xs n = choose (leb (length xs) n) (xs ++ replicate (n - length xs) 0) (replicate n 0)
+abbrev pub pageInto : List ℕ → ℕ → List ℕ
+pageInto xs n = choose (leb (length xs) n) (xs ++ replicate (n - length xs) 0) (replicate n 0)

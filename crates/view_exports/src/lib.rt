@@ -1,7 +1,7 @@
-// The page that `view::view` returns, copied out under a C name, for tests only.
+// The page that `view::view` returns, pageInto out under a C name, for tests only.
 ghost use mathlib.Core.Path.{_≡_};
 ghost use lib.ListN.{length};
-ghost use Rattle.view_exports.specs.Viewed.{viewedOf, copied};
+ghost use Rattle.view_exports.specs.Viewed.{viewedOf, pageInto};
 
 // The page's length; the page in `out`, where it has room for it, and zeros after it.
 #[no_mangle]
@@ -12,7 +12,7 @@ pub extern "C" fn view_page<'a>(
     page: u8,
     out: &mut [u8],
 ) -> u64
-    ensures { λ r. ⌜ (r ≡ length (viewedOf (now (head .entry)) (now (rom .entry)) (now (area .entry)) page)) × (now (out .exit) ≡ copied (viewedOf (now (head .entry)) (now (rom .entry)) (now (area .entry)) page) (length (now (out .entry)))) ⌝ }
+    ensures { λ r. ⌜ (r ≡ length (viewedOf (now (head .entry)) (now (rom .entry)) (now (area .entry)) page)) × (now (out .exit) ≡ pageInto (viewedOf (now (head .entry)) (now (rom .entry)) (now (area .entry)) page) (length (now (out .entry)))) ⌝ }
 {
     slices::fill(out, 0);
     let taken = header::take_header(head);

@@ -37,7 +37,7 @@ use Rattle.z80write.specs.declared.Written.{Written}
 use Rattle.z80write.specs.Written as W
 use Rattle.z80write.proofs.Whole.{room}
 use Rattle.z80write.proofs.Longest.{never-short}
-use Rattle.z80file.specs.Clean.{Clean, Start}
+use Rattle.z80file.specs.Clean.{Clean, ReadGives}
 use Rattle.z80file.specs.RoundTrip.{Asks, RoundTrip, Rewrites, Alike, WritesAndReads, ReadsAndWrites}
 use Rattle.z80file.proofs.Back.{blocks-back}
 use Rattle.z80file.proofs.Accepted.{Good, good-blocks, good-body}
@@ -100,7 +100,7 @@ model-is v model a s = refl
 
 started : (s : List ℕ) (n : ℕ) (v : Version) (model : Model) (a : Attachment) (x : Reading) → n ≡ 131072 → headOf s ≡ Header v model a → Good model x
     → R.outcomeOf x (machineOf v model a s) n .answer ≡ Accepted
-    → Start (R.outcomeOf x (machineOf v model a s) n .machine) (R.outcomeOf x (machineOf v model a s) n .memory) n
+    → ReadGives (R.outcomeOf x (machineOf v model a s) n .machine) (R.outcomeOf x (machineOf v model a s) n .memory) n
 started s n v model a (refusal w) l e g h = absurd (refused-not w h)
 started s n v model a (whole area) l e g h =
     record {
@@ -109,14 +109,14 @@ started s n v model a (whole area) l e g h =
       clean = subst (λ (k : Model). Clean k area) (sym (model-is v model a s)) g;
     }
 
-pub read-start : (s : List ℕ) (n : ℕ) → R.readOf s n .answer ≡ Accepted → Start (R.readOf s n .machine) (R.readOf s n .memory) n
+pub read-start : (s : List ℕ) (n : ℕ) → R.readOf s n .answer ≡ Accepted → ReadGives (R.readOf s n .machine) (R.readOf s n .memory) n
 unfolding R.readOf
 read-start s n = go (eqb n 131072) refl (headOf s) refl
   where
     o : Bool → Head → R.Outcome
     o t x = choose t (R.afterHead x s n) (R.refusedRead AreaLength n)
 
-    go : (t : Bool) → eqb n 131072 ≡ t → (x : Head) → headOf s ≡ x → o t x .answer ≡ Accepted → Start (o t x .machine) (o t x .memory) n
+    go : (t : Bool) → eqb n 131072 ≡ t → (x : Head) → headOf s ≡ x → o t x .answer ≡ Accepted → ReadGives (o t x .machine) (o t x .memory) n
     go true e (Head.Refused w) q h = absurd (refused-not w h)
     go true e (Header v model a) q h =
         started s n v model a (R.memoryInto v model (blank 131072) s) (eqb-true _ _ e) q (good-memory v model s (opens s (headOf s) v model a refl q .first)) h

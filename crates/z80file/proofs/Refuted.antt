@@ -1,15 +1,17 @@
 -- Demand 2 is false of each empty version: what is written of a 128K machine and an area of zeros does not come back.
 use Prim.Native.Nat.{ℕ, _-_}
 use mathlib.Core.Path.{_≡_, refl, sym, ap, _∙_}
+use mathlib.Core.Bool.{true}
 use mathlib.Core.List.{List, [], _++_, append-assoc, append-nil}
 use native.Mathlib.Omega.{arith}
 use lib.ListN.{length, take, replicate}
 use lib.Seq.{take-at, drop-at}
 use Rattle.slices.specs.Blank.{blank}
-use Rattle.spectrum.specs.declared.Model.the-variants.{K48, K128}
+use Rattle.spectrum.specs.declared.Machine.{Machine}
 use Rattle.spectrum.specs.declared.Refusal.the-variants.{FileShort, BlockMissing}
 use Rattle.spectrum.specs.declared.Answer.the-variants.{Refused}
-use Rattle.spectrum.specs.Machine.{blankMachine}
+use Rattle.spectrum.specs.Machine.{withOut}
+use Rattle.spectrum.specs.Valid.{Typed, validOf}
 use Rattle.spectrum.proofs.Validity.{valid-says}
 use Rattle.spectrum.proofs.Numbers.{refused-not}
 use Rattle.header.specs.declared.Version.the-variants.{V3}
@@ -24,10 +26,10 @@ use Rattle.z80write.specs.Written as W
 use Rattle.z80write.proofs.Whole.{room}
 use Rattle.z80write.proofs.Longest.{file-most}
 use Rattle.z80file.specs.Clean.{Clean}
-use Rattle.z80file.specs.RoundTrip.{FilesOf}
+use Rattle.z80file.specs.RoundTrip.{BackOf}
 use Rattle.z80file.specs.Wrong.{refusesFiles, fixedMachine, inventsLength}
 use Rattle.z80file.proofs.Accepted.{clean-blank}
-use Rattle.z80file.proofs.Sample.{sample, sample-typed, sample-valid}
+use Rattle.z80file.proofs.Sample.{sample, zero-at, sample-typed, sample-valid}
 
 area : List ℕ
 area = blank 131072
@@ -37,16 +39,29 @@ unfolding area
 clean = clean-blank (sample .model)
 
 -- what was written is refused, where it is to be accepted
-pub refuted-refuses-files : FilesOf refusesFiles W.writtenOf → ⊥
+pub refuted-refuses-files : BackOf refusesFiles W.writtenOf → ⊥
 unfolding refusesFiles
-refuted-refuses-files h = refused-not FileShort (ap (λ (o : R.Outcome). o .answer) (h .back sample area sample-typed sample-valid clean))
+refuted-refuses-files h = refused-not FileShort (ap (λ (o : R.Outcome). o .answer) (h sample area sample-typed sample-valid clean))
 
--- the machine that is read is a 48K one, where a 128K one was written
-pub refuted-fixed-machine : FilesOf fixedMachine W.writtenOf → ⊥
-unfolding fixedMachine blankMachine sample
-refuted-fixed-machine h =
-    let e : K48 ≡ K128 = ap (λ (o : R.Outcome). o .machine .model) (h .back sample area sample-typed sample-valid clean) in
-    let z : _≡_ {A = ℕ} 0 1 = cc in omega arith
+-- the sample with another last OUT
+changed : Machine
+changed = withOut sample 1
+
+changed-typed : Typed changed
+unfolding changed withOut sample
+changed-typed = record { pairs = λ k. omega (arith, zero-at 12 k); count = refl; r8 = omega arith; out = omega arith; sound = refl; side = refl }
+
+changed-valid : validOf changed ≡ true
+unfolding changed withOut sample validOf
+changed-valid = refl
+
+-- one machine is read for both, where their last OUTs are 0 and 1
+pub refuted-fixed-machine : (fixed : Machine) → BackOf (fixedMachine fixed) W.writtenOf → ⊥
+unfolding fixedMachine area changed withOut sample
+refuted-fixed-machine fixed h =
+    let one : fixed .out7ffd ≡ 0 = ap (λ (o : R.Outcome). o .machine .out7ffd) (h sample area sample-typed sample-valid clean) in
+    let two : fixed .out7ffd ≡ 1 = ap (λ (o : R.Outcome). o .machine .out7ffd) (h changed area changed-typed changed-valid (clean-blank (changed .model))) in
+    omega arith
 
 -- of no blocks all eight are missing
 no-blocks : blocksInto (sample .model) (blank 131072) [] ≡ refusal BlockMissing
@@ -73,8 +88,8 @@ front =
     ∙ sym (append-nil (headerOf sample))
 
 -- what is read are the 86 header bytes alone, which are refused for want of blocks, where they are to be accepted
-pub refuted-invented-length : FilesOf R.readOf inventsLength → ⊥
+pub refuted-invented-length : BackOf R.readOf inventsLength → ⊥
 unfolding inventsLength
 refuted-invented-length h =
     refused-not BlockMissing
-    (sym header-alone ∙ ap (λ (l : List ℕ). R.readOf l 131072 .answer) (sym front) ∙ ap (λ (o : R.Outcome). o .answer) (h .back sample area sample-typed sample-valid clean))
+    (sym header-alone ∙ ap (λ (l : List ℕ). R.readOf l 131072 .answer) (sym front) ∙ ap (λ (o : R.Outcome). o .answer) (h sample area sample-typed sample-valid clean))

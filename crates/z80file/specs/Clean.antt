@@ -14,8 +14,8 @@ pub record Clean (model : Model) (area : List ℕ) : Type 0 where
   pub long : length area ≡ 131072
   pub clear : (i : ℕ) → i < 131072 → owned model (i / 16384) ≡ false → getD area i 0 ≡ 0
 
--- what an accepted read tells of the machine and the memory: it is a start, and it can be written
-pub record Start (m : Machine) (area : List ℕ) (n : ℕ) : Type 0 where
+-- what an accepted read gives: a valid machine and a clean memory, so that it can be corrected and written
+pub record ReadGives (m : Machine) (area : List ℕ) (n : ℕ) : Type 0 where
   pub whole-area : n ≡ 131072
   pub valid : validOf m ≡ true
   pub clean : Clean (m .model) area

@@ -61,12 +61,17 @@ pub record ReadsAndWrites (o : R.Outcome) (n : ℕ) (r : Rewritten) (area out : 
   pub written : W.Writes (W.writtenOf (o .machine) (o .memory) n) (r .written) out
   pub rewrites : o .answer ≡ Accepted → 131182 ≤ n → Rewrites r area out
 
--- DEMAND 2, of a way to read and a way to write.
+-- the last sentence of demand 2, of a way to read and a way to write; it knows nothing of how either is defined. "For a valid machine whose
+-- unused pages are zero, reading that file gives the machine and memory back."
+abbrev pub BackOf : (List ℕ → ℕ → R.Outcome) → (Machine → List ℕ → ℕ → W.Outcome) → Type 0
+BackOf read write =
+    (m : Machine) (area : List ℕ) → Typed m → validOf m ≡ true → Clean (m .model) area
+    → read (take (write m area 131182 .size) (write m area 131182 .out)) 131072 ≡ record { answer = Accepted; machine = m; memory = area }
+
+-- DEMAND 2, of a way to read and a way to write
 pub record FilesOf (read : List ℕ → ℕ → R.Outcome) (write : Machine → List ℕ → ℕ → W.Outcome) : Type 0 where
   -- "Reading accepts exactly the .Z80 files that document 01 describes, and gives the machine and memory it says."
   pub reads : (s : List ℕ) (n : ℕ) → read s n ≡ readOf s n
   -- "Writing gives the one file it lays down."
   pub writes : (m : Machine) (area : List ℕ) (n : ℕ) → write m area n ≡ W.writtenOf m area n
-  -- "For a valid machine whose unused pages are zero, reading that file gives the machine and memory back."
-  pub back : (m : Machine) (area : List ℕ) → Typed m → validOf m ≡ true → Clean (m .model) area
-      → read (take (write m area 131182 .size) (write m area 131182 .out)) 131072 ≡ record { answer = Accepted; machine = m; memory = area }
+  pub back : BackOf read write

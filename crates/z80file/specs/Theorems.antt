@@ -12,8 +12,8 @@ use Rattle.blocks.specs.declared.Page.the-variants.{At}
 use Rattle.blocks.specs.Blocks.{pageOf}
 use Rattle.z80read.specs.Read.{readOf}
 use Rattle.z80write.specs.Written.{fileOf, writtenOf}
-use Rattle.z80file.specs.Clean.{Clean, Start}
-use Rattle.z80file.specs.RoundTrip.{FilesOf}
+use Rattle.z80file.specs.Clean.{Clean, ReadGives}
+use Rattle.z80file.specs.RoundTrip.{BackOf, FilesOf}
 use Rattle.z80file.specs.Wrong.{refusesFiles, fixedMachine, inventsLength}
 use Rattle.z80file.specs.Cases.{table, computed, expected}
 
@@ -23,13 +23,14 @@ pub record Theorems : Type 0 where
   -- "For a valid machine whose unused pages are zero, reading that file gives the machine and memory back."
   pub file-back : (m : Machine) (area : List ℕ) → Typed m → validOf m ≡ true → Clean (m .model) area
       → readOf (fileOf m area) 131072 ≡ record { answer = Accepted; machine = m; memory = area }
-  -- "An accepted read gives a valid machine, so an opened file is a start", and "sets pages that the machine does not own to zero"
-  pub read-start : (s : List ℕ) (n : ℕ) → readOf s n .answer ≡ Accepted → Start (readOf s n .machine) (readOf s n .memory) n
+  -- "An accepted read gives a valid machine", and "sets pages that the machine does not own to zero": with `read-typed`, a start
+  pub read-start : (s : List ℕ) (n : ℕ) → readOf s n .answer ≡ Accepted → ReadGives (readOf s n .machine) (readOf s n .memory) n
   -- the page of a block number is one that the machine owns
   pub owned-page : (model : Model) (n p : ℕ) → pageOf model n ≡ At p → (owned model p ≡ true) × (p < 8)
   -- P1 to P12, "proved together as a single table under a single statement"
   pub cases : map computed table ≡ map expected table
-  -- the empty versions of demand 2 do not meet it
-  pub refuted-refuses-files : FilesOf refusesFiles writtenOf → ⊥
-  pub refuted-fixed-machine : FilesOf fixedMachine writtenOf → ⊥
-  pub refuted-invented-length : FilesOf readOf inventsLength → ⊥
+  -- the empty versions of demand 2 do not meet its last sentence: a reader that refuses everything, one that gives a fixed machine, whichever
+  -- it is, and a writer with an invented length
+  pub refuted-refuses-files : BackOf refusesFiles writtenOf → ⊥
+  pub refuted-fixed-machine : (fixed : Machine) → BackOf (fixedMachine fixed) writtenOf → ⊥
+  pub refuted-invented-length : BackOf readOf inventsLength → ⊥

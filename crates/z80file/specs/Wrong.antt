@@ -3,7 +3,6 @@ use Prim.Native.Nat.{ℕ}
 use mathlib.Core.List.{List}
 use Rattle.spectrum.specs.declared.Machine.{Machine}
 use Rattle.spectrum.specs.declared.Refusal.the-variants.{FileShort}
-use Rattle.spectrum.specs.Machine.{blankMachine}
 use Rattle.z80read.specs.Read as R
 use Rattle.z80write.specs.Written as W
 
@@ -12,8 +11,8 @@ unfoldable pub refusesFiles : List ℕ → ℕ → R.Outcome
 refusesFiles s n = R.refusedRead FileShort n
 
 -- ".. or gives one fixed machine": right in all but the machine
-unfoldable pub fixedMachine : List ℕ → ℕ → R.Outcome
-fixedMachine s n = record { answer = R.readOf s n .answer; machine = blankMachine; memory = R.readOf s n .memory }
+unfoldable pub fixedMachine : Machine → List ℕ → ℕ → R.Outcome
+fixedMachine fixed s n = record { answer = R.readOf s n .answer; machine = fixed; memory = R.readOf s n .memory }
 
 -- "a writer with an invented length": right in all but the length
 unfoldable pub inventsLength : Machine → List ℕ → ℕ → W.Outcome
