@@ -76,8 +76,8 @@ pub record Untouched (encoded : List ℕ) (room : ℕ) (x₀ x : Buffers) (numbe
   pub left : x ≡ x₀
   pub said : numbers ≡ replicate (callCount encoded room) badHeader ++ replicate (room - callCount encoded room) 0
 
--- The promise of `serve`, with room for that many numbers; r calls are made. On every input the calls' own answers on a log just started; from the header of any valid machine and an area of
--- 131,072 bytes the model's; from bytes that are no valid machine's header nothing but 20.
+-- The promise of `serve`, with room for so many numbers; r calls are made. On every input the calls' own answers on a log just started; from
+-- the header of any valid machine and an area of 131,072 bytes the model's; from bytes that are no valid machine's header nothing but 20.
 pub record Serves (head area log encoded : List ℕ) (room r : ℕ) (x : Buffers) (numbers : List ℕ) : Type 0 where
   pub count : r ≡ callCount encoded room
   pub ran : RanBytes encoded room (startedBuffers head area (length log)) x numbers
