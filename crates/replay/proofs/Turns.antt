@@ -14,7 +14,7 @@ use Rattle.spectrum.specs.declared.Machine.{Machine}
 use Rattle.spectrum.specs.declared.Answer.{Answer}
 use Rattle.spectrum.specs.declared.Answer.the-variants.{Accepted}
 use Rattle.spectrum.specs.Numbers.{numberOf}
-use Rattle.spectrum.specs.Valid.{Typed, validOf}
+use Rattle.spectrum.specs.Valid.{Typed}
 use Rattle.journal.specs.declared.Done.{Done}
 use Rattle.journal.specs.declared.Counts.{Counts}
 use Rattle.journal.specs.declared.Call.{Call}
@@ -22,7 +22,7 @@ use Rattle.journal.specs.declared.Call.the-variants.{Byte, Pair, Out, Undo, Red
 use Rattle.journal.specs.Model.{World, emptyBench, modelAfter}
 use Rattle.journal.specs.Steps.{capacity}
 use Rattle.journal.specs.Journal.{Desk, Did, didOf, deskOn, journalCall, startCounts}
-use Rattle.journal.specs.Claim.{Fit, WideCall, WideCalls, started, runAfter, runAnswers}
+use Rattle.journal.specs.Claim.{WideCall, WideCalls, started, runAfter, runAnswers}
 use Rattle.journal.proofs.Claim.{claim}
 use Rattle.replay.specs.Replay.{callAt, callsFrom, callCount, callsIn, numbersIn, lastOf, Ran, Leaves, Replays}
 

@@ -22,7 +22,7 @@ use Rattle.journal.proofs.Still.{still}
 use Rattle.replay.proofs.Turns.{capacity-zeros}
 use Rattle.snapshot.specs.Files.{badHeader}
 use Rattle.snapshot.specs.Journal.{Buffers, Answered, deskFor, answeredBy, onTaken, callOn}
-use Rattle.server.specs.Server.{snapCall, runBuffers, runNumbers, buffers, startedBuffers, BenchBytes, ByteClaim, ByteClaimOf}
+use Rattle.server.specs.Server.{snapCall, runBuffers, runNumbers, buffers, startedBuffers, BenchBytes, ByteClaimOf}
 
 -- a desk as bytes
 abbrev pub deskBytes : Desk → Buffers

@@ -4,7 +4,6 @@ use mathlib.Core.Path.{_≡_, sym, ap, subst, _∙_}
 use mathlib.Core.List.{List}
 use lib.ListN.{length, getD}
 use Rattle.header.specs.Writing.{HeaderFor}
-use Rattle.journal.specs.Model.{World}
 use Rattle.z80read.specs.Read.{readOf}
 use Rattle.z80read.proofs.Typed.{read-typed}
 use Rattle.z80file.proofs.File.{read-start}

@@ -2,29 +2,28 @@
 use Prim.Native.Nat.{ℕ, zero, suc, _+_, _-_, _≤_, _<_}
 use mathlib.Core.Path.{_≡_, refl, sym, ap, subst, _∙_}
 use mathlib.Core.Bool.{Bool, true, false}
-use mathlib.Core.List.{List, [], _∷_, _++_, append-nil, map}
+use mathlib.Core.List.{List, [], _∷_, _++_, append-nil}
 use native.Mathlib.Omega.{arith}
 use native.Mathlib.Numerals.{add-one}
 use lib.ListN.{length, getD, set, take, replicate, length-set}
 use lib.Seq.{take-suc-set, append-snoc}
 use Rattle.slices.specs.Choose.{choose}
 use Rattle.spectrum.specs.declared.Machine.{Machine}
-use Rattle.spectrum.specs.Numbers.{numberOf}
 use Rattle.header.specs.Writing.{headerOf, HeaderFor}
 use Rattle.header.specs.Heads.{takenOf}
-use Rattle.header.proofs.Canonical.{taken-back, taken-is}
+use Rattle.header.proofs.Canonical.{taken-is}
 use Rattle.journal.specs.declared.Call.{Call}
 use Rattle.journal.specs.declared.Call.the-variants.{Byte, Pair, Out, Undo, Redo}
-use Rattle.journal.specs.Model.{World, byteAt, pairTo, outTo, emptyBench, modelAfter, modelAnswers}
+use Rattle.journal.specs.Model.{World, byteAt, pairTo, outTo, emptyBench, modelAfter}
 use Rattle.journal.specs.Steps.{capacity}
-use Rattle.journal.specs.Journal.{Desk, Did, journalCorrect, journalUndo, journalRedo, journalCall}
+use Rattle.journal.specs.Journal.{Desk, Did, journalCorrect, journalUndo, journalRedo}
 use Rattle.journal.specs.Claim.{Fit}
 use Rattle.replay.specs.Replay.{callAt, callsFrom, callCount, callsIn}
 use Rattle.replay.proofs.Turns.{calls-more, wide-all}
 use Rattle.spectrum.proofs.Numbers.{number-small}
 use Rattle.snapshot.specs.Files.{badHeader}
 use Rattle.snapshot.specs.Journal.{Buffers, Answered, deskFor, answeredBy, callOn, Leaves}
-use Rattle.server.specs.Server.{snapCall, runBuffers, runNumbers, startedBuffers, buffers, BenchBytes, CallMade, RanBytes, ModelBytes, Untouched, Serves}
+use Rattle.server.specs.Server.{snapCall, runBuffers, runNumbers, startedBuffers, buffers, BenchBytes, CallMade, RanBytes, Serves}
 use Rattle.server.proofs.Claim.{byte-claim, byte-still}
 
 -- what a call leaves, as one equation

@@ -22,7 +22,7 @@ use Rattle.z80file.specs.Clean.{Clean}
 use Rattle.z80file.proofs.File.{file-back, length-inside, read-start}
 use Rattle.snapshot.specs.Files.{ReadBytes, WriteBytes, badHeader, readBytes, readOfBytes, writeBytes, writeTaken, writeOfBytes, ReadsBytes, WritesBytes}
 use Rattle.snapshot.proofs.Accepted.{read-0, write-taken-as}
-use Rattle.server_files.specs.Trips.{CameBack, WritesThenReads, WrittenAgain, ReadsThenWrites}
+use Rattle.server_files.specs.Trips.{WritesThenReads, ReadsThenWrites}
 
 read-whole : (file : List ℕ) → readOfBytes file 131072 86 ≡ readBytes (readOf file 131072)
 unfolding readOfBytes
