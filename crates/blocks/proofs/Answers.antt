@@ -1,16 +1,17 @@
 -- What each answer of unpacking into a part of m bytes tells of the data: the cases of `answerOf`, taken back.
 use Prim.Native.Nat.{ℕ}
-use mathlib.Core.Path.{_≡_, refl}
+use mathlib.Core.Path.{_≡_, refl, ap, _∙_}
 use mathlib.Core.Bool.{Bool, true, false}
 use mathlib.Core.List.{List}
 use lib.Dec.{eqb}
 use lib.ListN.{length, replicate}
 use borrow.Author.Tests.{eqb-true}
 use Rattle.slices.specs.Choose.{choose}
-use Rattle.packing.specs.Packed.{Found, malformed, bytes}
-use Rattle.packing.specs.Unpacking.{Unpacks, answerOf, leftBy}
-use Rattle.packing.specs.declared.Unpacked.{Unpacked}
-use Rattle.packing.specs.declared.Unpacked.the-variants.{Good, WrongLength, Malformed}
+use Rattle.slices.specs.Blank.{blank}
+use Rattle.packed.specs.Packed.{Found, malformed, bytes}
+use Rattle.packed.specs.Unpacking.{Unpacks, answerOf, leftBy}
+use Rattle.packed.specs.declared.Unpacked.{Unpacked}
+use Rattle.packed.specs.declared.Unpacked.the-variants.{Good, WrongLength, Malformed}
 
 abbrev Told : Found → ℕ → List ℕ → Unpacked → Type 0
 Told u m d Good = (u ≡ bytes d) × (length d ≡ m)
@@ -37,3 +38,20 @@ module _ (u : Found) (n m : ℕ) (r : Unpacked) (d : List ℕ) (h : Unpacks u n 
 
   pub wrong-is : r ≡ WrongLength → (xs : List ℕ) × ((u ≡ bytes xs) × (eqb (length xs) m ≡ false))
   wrong-is e = rw e at told-here
+
+-- a refused part is all zero
+zeros : (u : Found) (m : ℕ) → (answerOf u m ≡ Good → ⊥) → leftBy u m ≡ replicate m 0
+zeros malformed m f = refl
+zeros (bytes xs) m f = go (eqb (length xs) m) f
+  where
+    go : (b : Bool) → (choose b Good WrongLength ≡ Good → ⊥) → choose b xs (replicate m 0) ≡ replicate m 0
+    go true f = absurd (f refl)
+    go false f = refl
+
+pub refused-zeros : (u : Found) (n : ℕ) (r : Unpacked) (d : List ℕ) → Unpacks u n r d → (r ≡ Good → ⊥) → d ≡ replicate n 0
+refused-zeros u n r d h e = h .memory ∙ zeros u n (λ g. e (h .answer ∙ g))
+
+-- the whole area filled with zeros
+pub area-cleared : (before after : List ℕ) → length before ≡ 131072 → after ≡ replicate (length before) 0 → after ≡ blank 131072
+unfolding blank
+area-cleared before after l e = e ∙ ap (λ (n : ℕ). replicate n 0) l

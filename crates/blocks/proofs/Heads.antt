@@ -1,49 +1,37 @@
 -- The block at a place of the file, at each return of `head_at`, `fill_page` and `read_block`: `blockOf` with its tests put in.
 use Prim.Native.Nat.{ℕ, _+_, _-_, _*_, _<_, _≤_}
-use mathlib.Core.Path.{_≡_, refl, sym, subst, _∙_}
+use mathlib.Core.Path.{_≡_, sym, subst, _∙_}
 use mathlib.Core.Bool.{Bool, true, false}
 use mathlib.Core.List.{List, _++_, append-nil}
 use native.Mathlib.Omega.{arith}
-use lib.Dec.{eqb, ltb}
+use lib.Dec.{eqb}
 use lib.ListN.{length, getD, take, drop, replicate, length-drop, length-take, drop-of-length-le}
 use lib.Seq.{getD-drop, drop-drop, take-length}
-use borrow.Author.Tests.{lt-ltb, le-ltb, eq-eqb, ne-eqb, ltb-false}
+use borrow.Author.Tests.{lt-ltb, le-ltb, eq-eqb, ne-eqb}
 use borrow.Rule.Slice.PartMut.{putMid}
-use Rattle.slices.specs.Choose.{choose}
 use Rattle.slices.specs.Put.{put}
-use Rattle.packing.specs.Packed.{Found, bytes, unpacked}
-use Rattle.packing.specs.Unpacking.{Unpacks}
-use Rattle.packing.specs.declared.Unpacked.{Unpacked}
-use Rattle.packing.specs.declared.Unpacked.the-variants.{Good, WrongLength, Malformed}
+use Rattle.packed.specs.Packed.{Found, bytes, unpacked}
+use Rattle.packed.specs.Unpacking.{Unpacks}
+use Rattle.packed.specs.declared.Unpacked.{Unpacked}
+use Rattle.packed.specs.declared.Unpacked.the-variants.{Good, WrongLength, Malformed}
 use Rattle.spectrum.specs.declared.Model.{Model}
-use Rattle.spectrum.specs.declared.Model.the-variants.{K48, K128}
 use Rattle.spectrum.specs.declared.Refusal.{Refusal}
 use Rattle.spectrum.specs.declared.Refusal.the-variants.{BlockCut, BlockNumber, BlockTwice, MalformedData, UnpackedLength}
+use Rattle.spectrum.proofs.Places.{owned-small}
 use Rattle.blocks.specs.declared.Page.{Page}
-use Rattle.blocks.specs.declared.Page.the-variants.{At, Nowhere}
+use Rattle.blocks.specs.declared.Page.the-variants.{At, NoPage}
 use Rattle.blocks.specs.declared.BlockHead.{BlockHead}
 use Rattle.blocks.specs.declared.BlockHead.the-variants.{Bad, Data}
-use Rattle.blocks.specs.Blocks.{pageOf, refused, brought, wordOf, sizeOf, contents, pageFrom, onPage, blockOf}
+use Rattle.slices.specs.Bytes.{wordAt}
+use Rattle.blocks.specs.Blocks.{pageOf, refused, brought, sizeOf, contents, pageFrom, onPage, blockOf}
+use Rattle.blocks.proofs.Pages.{page-owned}
 use Rattle.blocks.proofs.Answers.{good-is, malformed-is, wrong-is}
-use Rattle.blocks.specs.Inner.{HeadSays, Refuses, Holds, Brings, Fills}
+use Rattle.blocks.specs.Inner.{HeadSays, Refuses, BlockAt, Brings, Fills}
 
 pub page-small : (k : Model) (n : ℕ) (f : Page) (p : ℕ) → f ≡ pageOf k n → f ≡ At p → p < 8
-unfolding pageOf
-page-small K48 n f p e h = go (eqb n 8) (eqb n 4) (eqb n 5) (sym h ∙ e)
-  where
-    go : (x y z : Bool) → At p ≡ choose x (At 5) (choose y (At 2) (choose z (At 0) Nowhere)) → p < 8
-    go true y z q = let w : p ≡ 5 = cc in omega arith
-    go false true z q = let w : p ≡ 2 = cc in omega arith
-    go false false true q = let w : p ≡ 0 = cc in omega arith
-    go false false false q = let w : _≡_ {A = ℕ} 0 1 = cc in absurd (omega arith)
-page-small K128 n f p e h = go (ltb n 3) (ltb 10 n) refl refl (sym h ∙ e)
-  where
-    go : (x y : Bool) → ltb n 3 ≡ x → ltb 10 n ≡ y → At p ≡ choose x Nowhere (choose y Nowhere (At (n - 3))) → p < 8
-    go true y a b q = let w : _≡_ {A = ℕ} 0 1 = cc in absurd (omega arith)
-    go false true a b q = let w : _≡_ {A = ℕ} 0 1 = cc in absurd (omega arith)
-    go false false a b q = let w : p ≡ n - 3 = cc in omega (arith, ltb-false 10 n b)
+page-small k n f p e h = owned-small k p (page-owned k n p (sym e ∙ h))
 
-word-drop : (file : List ℕ) (at n : ℕ) → n ≡ getD file at 0 + 256 * getD file (at + 1) 0 → wordOf (drop at file) ≡ n
+word-drop : (file : List ℕ) (at n : ℕ) → n ≡ getD file at 0 + 256 * getD file (at + 1) 0 → wordAt (drop at file) 0 ≡ n
 word-drop file at n e =
     let z : at + 0 ≡ at = omega arith in
     rw (getD-drop at file 0 0, getD-drop at file 1 0, z) (sym e)
@@ -64,14 +52,14 @@ module _ (model : Model) (seen : List Bool) (file : List ℕ) (at : ℕ) where
     unfolding blockOf
     opened l = let g : 3 + size ≤ length file - at = omega arith in rw (length-drop at file, le-ltb _ _ h, word-drop file at n en, ← es, le-ltb _ _ g, getD-drop at file 2 0, drop-drop 3 at file, drop-drop (3 + size) at file)
 
-    pub nowhere : (f : Page) → size ≤ length file - at - 3 → f ≡ pageOf model (getD file (at + 2) 0) → f ≡ Nowhere → Refuses model seen file at BlockNumber
+    pub nowhere : (f : Page) → size ≤ length file - at - 3 → f ≡ pageOf model (getD file (at + 2) 0) → f ≡ NoPage → Refuses model seen file at BlockNumber
     nowhere f g e z = record { block = opened g ∙ rw (← e, z) }
 
     pub twice : (f : Page) (p : ℕ) → size ≤ length file - at - 3 → f ≡ pageOf model (getD file (at + 2) 0) → f ≡ At p → getD seen p false ≡ true → Refuses model seen file at BlockTwice
     twice f p g e z s = record { block = opened g ∙ rw (← e, z, s) }
 
     pub holds : (f : Page) (p : ℕ) → at < length file → size ≤ length file - at - 3 → f ≡ pageOf model (getD file (at + 2) 0) → f ≡ At p → getD seen p false ≡ false
-        → Holds model seen file at p (at + 3) (at + 3 + size) (eqb n 65535)
+        → BlockAt model seen file at p (at + 3) (at + 3 + size) (eqb n 65535)
     holds f p l g e z s =
         let a : at + (3 + size) ≡ at + 3 + size = omega arith in
         let b : at + 3 + size - (at + 3) ≡ size = omega arith in
@@ -117,7 +105,7 @@ part-long : (before : List ℕ) (page : ℕ) → page < 8 → length before ≡ 
 part-long before page h l = simp (length-take, length-drop) (omega arith)
 
 module _ (k : Model) (seen : List Bool) (file : List ℕ) (at : ℕ) (head : BlockHead) (page start end : ℕ) (plain : Bool) (hs : HeadSays k seen file at head) (hd : head ≡ Data page start end plain) where
-  head-holds : Holds k seen file at page start end plain
+  head-holds : BlockAt k seen file at page start end plain
   head-holds = subst (HeadSays k seen file at) hd hs
 
   pub page-below : page < 8

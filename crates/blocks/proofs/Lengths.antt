@@ -7,20 +7,19 @@ use native.Mathlib.Omega.{arith}
 use native.Mathlib.Nat.{le-of-suc-le-suc, not-suc-le-zero}
 use borrow.Author.Tests.{eqb-true, eqb-false}
 use lib.Dec.{eqb, ltb}
-use lib.ListN.{length, getD, set, take, drop, length-drop, length-take, length-set}
+use lib.ListN.{length, getD, set, drop, length-drop, length-set}
 use lib.Seq.{getD-drop}
 use Rattle.slices.specs.Choose.{choose}
+use Rattle.slices.specs.Bytes.{wordAt}
 use Rattle.slices.specs.Put.{put}
 use Rattle.slices.proofs.Chosen.{either}
-use Rattle.packing.specs.Packed.{Found, malformed, bytes, unpacked}
-use Rattle.packing.specs.Packed.Promise.{unpacked-long}
+use Rattle.packed.specs.Packed.{Found, malformed, bytes}
 use Rattle.spectrum.specs.declared.Model.{Model}
 use Rattle.spectrum.specs.declared.Refusal.{Refusal}
-use Rattle.spectrum.specs.declared.Refusal.the-variants.{BlockCut, BlockTwice, UnpackedLength, EndMarker}
+use Rattle.spectrum.specs.declared.Refusal.the-variants.{BlockCut, BlockTwice, UnpackedLength}
 use Rattle.blocks.specs.declared.Page.{Page}
-use Rattle.blocks.specs.declared.Page.the-variants.{At, Nowhere}
-use Rattle.blocks.specs.Blocks.{pageOf, Block, brought, refuse, wordOf, sizeOf, pageFrom, onPage, blockOf, Reading, refusal, whole, andThen, blocks, noneSeen, blocksInto}
-use Rattle.blocks.specs.Body.{spread, spreadFrom, marked, bodyInto}
+use Rattle.blocks.specs.declared.Page.the-variants.{At, NoPage}
+use Rattle.blocks.specs.Blocks.{pageOf, Block, refused, brought, sizeOf, pageFrom, onPage, blockOf, Reading, readAs, afterBlock, blocks, noneSeen, blocksInto}
 use Rattle.blocks.proofs.Heads.{page-small}
 
 -- how many of the flags are not set
@@ -37,37 +36,37 @@ left-set (false ∷ l) (suc p) h e = ap suc (left-set l p (le-of-suc-le-suc h) e
 
 -- a block that is taken lies on a page that was not seen, and is followed by what stands behind it
 module _ (P : Type 0) (seen : List Bool) (r a : List ℕ) (f : ℕ → List ℕ → List ℕ → Reading)
-    (k : (page : ℕ) (xs : List ℕ) → page < 8 → getD seen page false ≡ false → f page xs r ≡ whole a → P) where
-  past : (b : Bool) (why : Refusal) (x : Block) → (b ≡ false → andThen x f ≡ whole a → P) → andThen (refuse b why x) f ≡ whole a → P
+    (k : (page : ℕ) (xs : List ℕ) → page < 8 → getD seen page false ≡ false → f page xs r ≡ readAs a → P) where
+  past : (b : Bool) (why : Refusal) (x : Block) → (b ≡ false → afterBlock x f ≡ readAs a → P) → afterBlock (choose b (refused why) x) f ≡ readAs a → P
   past true why x g e = let z : _≡_ {A = ℕ} 0 1 = cc in absurd (omega arith)
   past false why x g e = g refl e
 
-  past-page : (d : Found) (page : ℕ) → page < 8 → getD seen page false ≡ false → andThen (pageFrom d page r) f ≡ whole a → P
+  past-page : (d : Found) (page : ℕ) → page < 8 → getD seen page false ≡ false → afterBlock (pageFrom d page r) f ≡ readAs a → P
   past-page malformed page h c e = let z : _≡_ {A = ℕ} 0 1 = cc in absurd (omega arith)
   past-page (bytes xs) page h c e = past (choose (eqb (length xs) 16384) false true) UnpackedLength (brought page xs r) (λ t. k page xs h c) e
 
-  past-number : (model : Model) (n : ℕ) (p : Page) (d : Found) → p ≡ pageOf model n → andThen (onPage p seen d r) f ≡ whole a → P
-  past-number model n Nowhere d q e = let z : _≡_ {A = ℕ} 0 1 = cc in absurd (omega arith)
+  past-number : (model : Model) (n : ℕ) (p : Page) (d : Found) → p ≡ pageOf model n → afterBlock (onPage p seen d r) f ≡ readAs a → P
+  past-number model n NoPage d q e = let z : _≡_ {A = ℕ} 0 1 = cc in absurd (omega arith)
   past-number model n (At p) d q e = past (getD seen p false) BlockTwice (pageFrom d p r) (past-page d p (page-small model n (At p) p q refl)) e
 
-  past-block : (model : Model) (s : List ℕ) → r ≡ drop (3 + sizeOf (wordOf s)) s → andThen (blockOf model seen s) f ≡ whole a → P
+  past-block : (model : Model) (s : List ℕ) → r ≡ drop (3 + sizeOf (wordAt s 0)) s → afterBlock (blockOf model seen s) f ≡ readAs a → P
   unfolding blockOf
   past-block model s q e =
-      past (ltb (length s) 3) BlockCut _ (λ t. past (ltb (length s) (3 + sizeOf (wordOf s))) BlockCut _ (λ t. past-number model (getD s 2 0) (pageOf model (getD s 2 0)) _ refl))
+      past (ltb (length s) 3) BlockCut _ (λ t. past (ltb (length s) (3 + sizeOf (wordAt s 0))) BlockCut _ (λ t. past-number model (getD s 2 0) (pageOf model (getD s 2 0)) _ refl))
       (rw (← q) at e)
 
-size-most : (s : List ℕ) → ((i : ℕ) → getD s i 0 < 256) → sizeOf (wordOf s) ≤ 65534
+size-most : (s : List ℕ) → ((i : ℕ) → getD s i 0 < 256) → sizeOf (wordAt s 0) ≤ 65534
 size-most s w =
-    either (λ (n : ℕ). n ≤ 65534) (eqb (wordOf s) 65535) 16384 (wordOf s) (λ e. omega arith)
-    (λ e. omega (arith, eqb-false (wordOf s) 65535 e, w 0, w 1))
+    either (λ (n : ℕ). n ≤ 65534) (eqb (wordAt s 0) 65535) 16384 (wordAt s 0) (λ e. omega arith)
+    (λ e. omega (arith, eqb-false (wordAt s 0) 65535 e, w 0, w 1))
 
 all-most : (model : Model) (turns : ℕ) (seen : List Bool) (area s a : List ℕ) → ((i : ℕ) → getD s i 0 < 256) → length seen ≡ 8 → length s ≤ turns
-    → blocks model turns seen area s ≡ whole a → length s ≤ 65537 * left seen
+    → blocks model turns seen area s ≡ readAs a → length s ≤ 65537 * left seen
 unfolding blocks
 all-most model zero seen area s a w l t e = omega arith
 all-most model (suc turns) seen area s a w l t e =
-    let k = 3 + sizeOf (wordOf s) in
-    either (λ (x : Reading). x ≡ whole a → length s ≤ 65537 * left seen) (eqb (length s) 0) _ _ (λ z q. omega (arith, eqb-true (length s) 0 z))
+    let k = 3 + sizeOf (wordAt s 0) in
+    either (λ (x : Reading). x ≡ readAs a → length s ≤ 65537 * left seen) (eqb (length s) 0) _ _ (λ z q. omega (arith, eqb-true (length s) 0 z))
     (λ z. past-block (length s ≤ 65537 * left seen) seen (drop k s) a _
     (λ page xs h c q.
     let ih = all-most model turns (set seen page true) (put area (page * 16384) xs) (drop k s) a (λ i. rw (getD-drop k s i 0) (w (k + i)))
@@ -75,24 +74,6 @@ all-most model (suc turns) seen area s a w l t e =
     omega (arith, size-most s w, length-drop k s, left-set seen page (omega arith) c)) model s refl) e
 
 -- eight blocks at most, no page coming twice, of 3 + 65,534 bytes at most
-pub blocks-most : (model : Model) (area s a : List ℕ) → ((i : ℕ) → getD s i 0 < 256) → blocksInto model area s ≡ whole a → length s ≤ 524296
+pub blocks-most : (model : Model) (area s a : List ℕ) → ((i : ℕ) → getD s i 0 < 256) → blocksInto model area s ≡ readAs a → length s ≤ 524296
 unfolding blocksInto left
 blocks-most model area s a w e = omega (arith, all-most model (length s) noneSeen area s a w refl (omega arith) e)
-
-only-whole : (P : Type 0) (t : Bool) (x : Reading) (why : Refusal) (a : List ℕ) → (t ≡ true → x ≡ whole a → P) → choose t x (refusal why) ≡ whole a → P
-only-whole P true x why a f e = f refl e
-only-whole P false x why a f e = let z : _≡_ {A = ℕ} 0 1 = cc in absurd (omega arith)
-
-spread-most : (n : ℕ) (d : Found) (area a : List ℕ) → ((xs : List ℕ) → d ≡ bytes xs → n ≤ 4 + 4 * length xs) → spreadFrom d area ≡ whole a → n ≤ 196612
-spread-most n malformed area a f e = let z : _≡_ {A = ℕ} 0 1 = cc in absurd (omega arith)
-spread-most n (bytes xs) area a f e =
-    only-whole (n ≤ 196612) (eqb (length xs) 49152) (whole (spread area xs)) UnpackedLength a (λ t q. omega (arith, f xs refl, eqb-true (length xs) 49152 t)) e
-
--- 4 * 49,152 and the four bytes of the end marker
-pub body-most : (packed : Bool) (area s a : List ℕ) → bodyInto packed area s ≡ whole a → length s ≤ 196612
-unfolding bodyInto
-body-most true area s a e =
-    let n = length s - 4 in
-    only-whole (length s ≤ 196612) (marked s) (spreadFrom (unpacked (take n s)) area) EndMarker a
-    (λ t. spread-most (length s) (unpacked (take n s)) area a (λ xs h. omega (arith, unpacked-long (take n s) xs h, length-take n s))) e
-body-most false area s a e = spread-most (length s) (bytes s) area a (λ xs h. let p : s ≡ xs = cc in omega (arith, ap length p)) e

@@ -1,7 +1,5 @@
-pub mod Pages
+mod Pages
 pub mod Answers
-pub mod Heads
+mod Heads
 pub mod Turns
-pub mod Bodies
-pub mod Moves
 pub mod Lengths

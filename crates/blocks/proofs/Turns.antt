@@ -11,11 +11,12 @@ use Rattle.slices.specs.Put.{put}
 use Rattle.spectrum.specs.declared.Model.{Model}
 use Rattle.spectrum.specs.declared.Refusal.{Refusal}
 use Rattle.spectrum.specs.declared.Refusal.the-variants.{BlockMissing}
-use Rattle.spectrum.specs.declared.Answer.the-variants.{Accepted, Refused}
-use Rattle.blocks.specs.declared.Step.{Step}
-use Rattle.blocks.specs.declared.Step.the-variants.{Stop, Next}
-use Rattle.blocks.specs.Blocks.{allThere, Block, blockOf, Reading, refusal, whole, andThen, finished, blocks, noneSeen, blocksInto}
-use Rattle.blocks.specs.Inner.{Refuses, Brings, StepSays, Tells}
+use Rattle.spectrum.specs.declared.Answer.{Answer}
+use Rattle.spectrum.specs.declared.Answer.the-variants.{Accepted}
+use Rattle.blocks.specs.declared.BlockStep.{BlockStep}
+use Rattle.blocks.specs.declared.BlockStep.the-variants.{Failed, Next}
+use Rattle.blocks.specs.Blocks.{allThere, Block, blockOf, Reading, unread, readAs, ReadsBody, afterBlock, finished, blocks, noneSeen, blocksInto}
+use Rattle.blocks.specs.Inner.{Refuses, Brings, StepSays}
 
 pub record Going (model : Model) (file : List ℕ) (all : Reading) (area : List ℕ) (seen : List Bool) (at : ℕ) : Type 0 where
   pub turns : ℕ
@@ -30,7 +31,7 @@ going-none model file area from = record { turns = length (drop from file); enou
 -- one turn of the definition, where there is a byte left
 pub turn : (model : Model) (turns : ℕ) (seen : List Bool) (area s : List ℕ) → 0 < length s
     → blocks model (suc turns) seen area s
-    ≡ andThen (blockOf model seen s) (λ page xs rest. blocks model turns (set seen page true) (put area (page * 16384) xs) rest)
+    ≡ afterBlock (blockOf model seen s) (λ page xs rest. blocks model turns (set seen page true) (put area (page * 16384) xs) rest)
 unfolding blocks
 turn model turns seen area s h = rw (ne-eqb (length s) 0 (λ e. omega arith))
 
@@ -41,7 +42,7 @@ ended model zero seen area s h = refl
 ended model (suc turns) seen area s h = rw (eq-eqb (length s) 0 h)
 
 -- a step that brought a page
-module _ (model : Model) (file area after : List ℕ) (seen : List Bool) (at : ℕ) (step : Step) (page next : ℕ) (s : StepSays model seen file at area after step) (e : step ≡ Next page next) where
+module _ (model : Model) (file area after : List ℕ) (seen : List Bool) (at : ℕ) (step : BlockStep) (page next : ℕ) (s : StepSays model seen file at area after step) (e : step ≡ Next page next) where
   step-brings : Brings model seen file at area after page next
   step-brings = subst (StepSays model seen file at area after) e s
 
@@ -55,16 +56,16 @@ module _ (model : Model) (file : List ℕ) (all : Reading) (area : List ℕ) (se
   -- with a byte left there is a turn left
   read-on : at < length file
       → (t : ℕ) × ((length file - at ≤ suc t)
-      × (andThen (blockOf model seen (drop at file)) (λ page xs rest. blocks model t (set seen page true) (put area (page * 16384) xs) rest) ≡ all))
+      × (afterBlock (blockOf model seen (drop at file)) (λ page xs rest. blocks model t (set seen page true) (put area (page * 16384) xs) rest) ≡ all))
   read-on h = go (g .turns) (g .enough) (g .same)
     where
       go : (t : ℕ) → length file - at ≤ t → blocks model t seen area (drop at file) ≡ all
           → (t : ℕ) × ((length file - at ≤ suc t)
-          × (andThen (blockOf model seen (drop at file)) (λ page xs rest. blocks model t (set seen page true) (put area (page * 16384) xs) rest) ≡ all))
+          × (afterBlock (blockOf model seen (drop at file)) (λ page xs rest. blocks model t (set seen page true) (put area (page * 16384) xs) rest) ≡ all))
       go zero e q = absurd (omega arith)
       go (suc t) e q = (t, (e, sym (turn model t seen area (drop at file) (omega (arith, length-drop at file))) ∙ q))
 
-  pub going-more : (after : List ℕ) (step : Step) (page next : ℕ) → at < length file → StepSays model seen file at area after step → step ≡ Next page next
+  pub going-more : (after : List ℕ) (step : BlockStep) (page next : ℕ) → at < length file → StepSays model seen file at area after step → step ≡ Next page next
       → Going model file all after (set seen page true) next
   going-more after step page next h s e =
       let b = step-brings model file area after seen at step page next s e in
@@ -74,22 +75,23 @@ module _ (model : Model) (file : List ℕ) (all : Reading) (area : List ℕ) (se
         enough = omega (arith, r .1 .0, b .further);
         same =
             ap (λ (l : List ℕ). blocks model (r .0) (set seen page true) l (drop next file)) (b .placed)
-            ∙ sym (ap (λ (x : Block). andThen x (λ page xs rest. blocks model (r .0) (set seen page true) (put area (page * 16384) xs) rest)) (b .block))
+            ∙ sym (ap (λ (x : Block). afterBlock x (λ page xs rest. blocks model (r .0) (set seen page true) (put area (page * 16384) xs) rest)) (b .block))
             ∙ r .1 .1;
       }
 
-  pub going-stop : (after : List ℕ) (step : Step) (n : Refusal) → at < length file → StepSays model seen file at area after step → step ≡ Stop n → Tells all (Refused n) after
-  going-stop after step n h s e =
+  pub going-stop : (after clear : List ℕ) (step : BlockStep) (n : Refusal) (r : Answer) → at < length file → StepSays model seen file at area after step → step ≡ Failed n
+      → ReadsBody (unread n) r clear → ReadsBody all r clear
+  going-stop after clear step n r h s e t =
       let b : Refuses model seen file at n = subst (StepSays model seen file at area after) e s in
-      let r = read-on h in
-      let q : refusal n ≡ all = sym (ap (λ (x : Block). andThen x (λ page xs rest. blocks model (r .0) (set seen page true) (put area (page * 16384) xs) rest)) (b .block)) ∙ r .1 .1 in
-      subst (λ (x : Reading). Tells x (Refused n) after) q refl
+      let o = read-on h in
+      let q : unread n ≡ all = sym (ap (λ (x : Block). afterBlock x (λ page xs rest. blocks model (o .0) (set seen page true) (put area (page * 16384) xs) rest)) (b .block)) ∙ o .1 .1 in
+      subst (λ (x : Reading). ReadsBody x r clear) q t
 
-  at-end : length file ≤ at → (b : Bool) → b ≡ allThere model seen → choose b (whole area) (refusal BlockMissing) ≡ all
-  at-end h b e = ap (λ (x : Bool). choose x (whole area) (refusal BlockMissing)) e ∙ sym (ended model (g .turns) seen area (drop at file) (length-drop at file ∙ omega arith)) ∙ g .same
+  at-end : length file ≤ at → (b : Bool) → b ≡ allThere model seen → choose b (readAs area) (unread BlockMissing) ≡ all
+  at-end h b e = ap (λ (x : Bool). choose x (readAs area) (unread BlockMissing)) e ∙ sym (ended model (g .turns) seen area (drop at file) (length-drop at file ∙ omega arith)) ∙ g .same
 
-  pub going-all : (b : Bool) → length file ≤ at → b ≡ allThere model seen → b ≡ true → Tells all Accepted area
-  going-all b h e t = subst (λ (x : Reading). Tells x Accepted area) (rw t at (at-end h b e)) (refl, refl)
+  pub going-all : (b : Bool) → length file ≤ at → b ≡ allThere model seen → b ≡ true → ReadsBody all Accepted area
+  going-all b h e t = subst (λ (x : Reading). ReadsBody x Accepted area) (rw t at (at-end h b e)) (refl, refl)
 
-  pub going-missing : (b : Bool) → length file ≤ at → b ≡ allThere model seen → b ≡ false → Tells all (Refused BlockMissing) area
-  going-missing b h e t = subst (λ (x : Reading). Tells x (Refused BlockMissing) area) (rw t at (at-end h b e)) refl
+  pub going-missing : (b : Bool) (clear : List ℕ) (r : Answer) → length file ≤ at → b ≡ allThere model seen → b ≡ false → ReadsBody (unread BlockMissing) r clear → ReadsBody all r clear
+  going-missing b clear r h e t q = subst (λ (x : Reading). ReadsBody x r clear) (rw t at (at-end h b e)) q

@@ -1,21 +1,19 @@
--- Contracts of functions that only `z80read` calls, by the cases of their answers: a reviewer may skip this file.
+-- Contracts of private functions, by the cases of their answers: a reviewer may skip this file.
 use Prim.Native.Nat.{ℕ, _-_, _*_, _<_, _≤_}
 use mathlib.Core.Path.{_≡_}
 use mathlib.Core.Bool.{Bool}
-use mathlib.Core.List.{List, _++_}
-use lib.ListN.{length, take, drop, replicate}
+use mathlib.Core.List.{List}
+use lib.ListN.{length, take, drop}
 use Rattle.slices.specs.Put.{put}
-use Rattle.packing.specs.Unpacking.{answerOf, leftBy}
-use Rattle.packing.specs.declared.Unpacked.{Unpacked}
+use Rattle.packed.specs.Unpacking.{answerOf, leftBy}
+use Rattle.packed.specs.declared.Unpacked.{Unpacked}
 use Rattle.spectrum.specs.declared.Model.{Model}
 use Rattle.spectrum.specs.declared.Refusal.{Refusal}
-use Rattle.spectrum.specs.declared.Answer.{Answer}
-use Rattle.spectrum.specs.declared.Answer.the-variants.{Accepted, Refused}
 use Rattle.blocks.specs.declared.BlockHead.{BlockHead}
 use Rattle.blocks.specs.declared.BlockHead.the-variants.{Bad, Data}
-use Rattle.blocks.specs.declared.Step.{Step}
-use Rattle.blocks.specs.declared.Step.the-variants.{Stop, Next}
-use Rattle.blocks.specs.Blocks.{refused, brought, contents, pageFrom, blockOf, Reading, refusal, whole}
+use Rattle.blocks.specs.declared.BlockStep.{BlockStep}
+use Rattle.blocks.specs.declared.BlockStep.the-variants.{Failed, Next}
+use Rattle.blocks.specs.Blocks.{refused, brought, contents, pageFrom, blockOf}
 
 -- as `Unpacks` of the packing crate, with plain data too
 pub record Fills (plain : Bool) (body before after : List ℕ) (r : Unpacked) : Type 0 where
@@ -27,7 +25,7 @@ pub record Refuses (model : Model) (seen : List Bool) (file : List ℕ) (at : �
   pub block : blockOf model seen (drop at file) ≡ refused why
 
 -- the block at a place is what the file's bytes from start to end give for a page
-pub record Holds (model : Model) (seen : List Bool) (file : List ℕ) (at page start end : ℕ) (plain : Bool) : Type 0 where
+pub record BlockAt (model : Model) (seen : List Bool) (file : List ℕ) (at page start end : ℕ) (plain : Bool) : Type 0 where
   pub block : blockOf model seen (drop at file) ≡ pageFrom (contents plain (take (end - start) (drop start file))) page (drop end file)
   pub page-small : page < 8
   pub further : at < start
@@ -36,7 +34,7 @@ pub record Holds (model : Model) (seen : List Bool) (file : List ℕ) (at page s
 
 abbrev pub HeadSays : Model → List Bool → List ℕ → ℕ → BlockHead → Type 0
 HeadSays model seen file at (Bad why) = Refuses model seen file at why
-HeadSays model seen file at (Data page start end plain) = Holds model seen file at page start end plain
+HeadSays model seen file at (Data page start end plain) = BlockAt model seen file at page start end plain
 
 -- a block that was read: its bytes stand in their page
 pub record Brings (model : Model) (seen : List Bool) (file : List ℕ) (at : ℕ) (before after : List ℕ) (page next : ℕ) : Type 0 where
@@ -47,19 +45,6 @@ pub record Brings (model : Model) (seen : List Bool) (file : List ℕ) (at : ℕ
   pub further : at < next
   pub within : next ≤ length file
 
-abbrev pub StepSays : Model → List Bool → List ℕ → ℕ → List ℕ → List ℕ → Step → Type 0
-StepSays model seen file at before after (Stop why) = Refuses model seen file at why
+abbrev pub StepSays : Model → List Bool → List ℕ → ℕ → List ℕ → List ℕ → BlockStep → Type 0
+StepSays model seen file at before after (Failed why) = Refuses model seen file at why
 StepSays model seen file at before after (Next page next) = Brings model seen file at before after page next
-
--- the page at `from` also at `to`
-abbrev pub pageMoved : List ℕ → ℕ → ℕ → List ℕ
-pageMoved area from to = put area to (take 16384 (drop from area))
-
--- page 6 at 2 and page 7 at 0, and zeros in their places
-unfoldable pub settled : List ℕ → List ℕ
-settled area = let a = pageMoved (pageMoved area 98304 32768) 114688 0 in take 98304 a ++ replicate (length a - 98304) 0
-
--- a reading's answer and, where it is accepted, its area; refused, the area is free
-abbrev pub Tells : Reading → Answer → List ℕ → Type 0
-Tells (refusal why) r after = r ≡ Refused why
-Tells (whole area) r after = (r ≡ Accepted) × (after ≡ area)

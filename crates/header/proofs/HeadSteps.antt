@@ -1,5 +1,5 @@
--- The header's refusals and its machine, at each return of the code.
-use Prim.Native.Nat.{ℕ, _+_, _/_, _%_, _<_, _≤_}
+-- The header's refusals, at each return of the code.
+use Prim.Native.Nat.{ℕ, _/_, _%_, _<_, _≤_}
 use native.Mathlib.Omega.{arith}
 use mathlib.Core.Path.{_≡_, sym, ap, _∙_}
 use mathlib.Core.Bool.{Bool, true, false}
@@ -8,8 +8,9 @@ use lib.ListN.{length}
 use lib.Dec.{eqb}
 use borrow.Author.Tests.{lt-ltb, le-ltb, le-leb, lt-leb, eq-eqb, ne-eqb}
 use Rattle.slices.specs.Choose.{choose}
+use Rattle.slices.specs.Bytes.{at, wordAt}
 use Rattle.spectrum.specs.declared.Model.{Model}
-use Rattle.spectrum.specs.declared.Model.the-variants.{K48, K128}
+use Rattle.spectrum.specs.declared.Model.the-variants.{K48}
 use Rattle.spectrum.specs.declared.Attachment.{Attachment}
 use Rattle.spectrum.specs.declared.Attachment.the-variants.{Nothing}
 use Rattle.spectrum.specs.declared.Refusal.the-variants.{FileShort, UnknownVersion, ModeNotCarried, InterruptMode, CounterRange, Byte60}
@@ -22,9 +23,7 @@ use Rattle.header.specs.declared.Mode.{Mode}
 use Rattle.header.specs.declared.Mode.the-variants.{Carried, NotCarried}
 use Rattle.header.specs.declared.Head.{Head}
 use Rattle.header.specs.declared.Head.the-variants.{Refused, Header}
-use Rattle.header.specs.Bytes.{at, wordAt, byte12Of}
-use Rattle.header.specs.Reading.{headerLength, pcAt}
-use Rattle.header.specs.Heads.{versionOf, mode2, mode3, modeOf, clockHead, modeHead, laterHead, firstHead, headOf}
+use Rattle.header.specs.Heads.{byte12Of, headerLength, versionOf, mode2, mode3, modeOf, clockHead, modeHead, laterHead, firstHead, headOf}
 
 -- how long a header is
 pub long-30 : (v : Version) (n : ℕ) → headerLength v ≤ n → 30 ≤ n
@@ -38,13 +37,8 @@ long-v2 v n e h = rw e at h
 pub long-v3 : (v : Version) (n : ℕ) → v ≡ V3 → headerLength v ≤ n → 86 ≤ n
 long-v3 v n e h = rw e at h
 
-pub pc-inside : (v : Version) (n p : ℕ) → headerLength v ≤ n → p ≡ pcAt v → p + 1 < n
-pc-inside V1 n p h e = omega arith
-pc-inside V2 n p h e = omega arith
-pc-inside V3 n p h e = omega arith
-
-pub carry-inside : (m : Model) (n place : ℕ) → m ≡ K128 → (m ≡ K128 → 55 ≤ n) → place < 55 → place < n
-carry-inside m n place e f h = let k : 55 ≤ n = f e in omega arith
+pub inside-29 : (v : Version) (n : ℕ) → headerLength v ≤ n → 29 < n
+inside-29 v n h = let k = long-30 v n h in omega arith
 
 -- byte 12
 pub byte12-255 : (s : List ℕ) → at s 12 ≡ 255 → 1 ≡ byte12Of s

@@ -6,7 +6,7 @@ use lib.ListN.{length}
 use Rattle.spectrum.specs.declared.Model.{Model}
 use Rattle.spectrum.specs.declared.Model.the-variants.{K128}
 use Rattle.header.specs.declared.Version.{Version}
-use Rattle.header.specs.Reading.{headerLength}
+use Rattle.header.specs.Heads.{headerLength}
 
 -- the header is there; a 128K machine has the later versions' bytes too
 pub record Readable (version : Version) (model : Model) (s : List ℕ) : Type 0 where

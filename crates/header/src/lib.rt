@@ -1,24 +1,13 @@
-// The header of a .Z80 file: what it says of v1, v2 and v3, and its refusals. The machine is read off it in
-// reading.rt, and the 86 bytes of v3 are written in writing.rt.
-pub mod reading;
-pub mod writing;
-
+// What the header of a .Z80 file says before any machine is read: v1, v2 or v3, model and attachment, or why it is refused.
 use spectrum::Attachment;
-use spectrum::Machine;
 use spectrum::Model;
 use spectrum::Refusal;
 ghost use Prim.Native.Nat.{_+_, _<_, _≤_};
 ghost use mathlib.Core.Path.{_≡_};
-ghost use mathlib.Core.List.{_++_};
-ghost use lib.ListN.{length, getD, take, drop};
-ghost use Rattle.slices.specs.Put.{put};
-ghost use Rattle.slices.specs.Same.{same};
-ghost use Rattle.spectrum.specs.declared.Model.the-variants.{K128};
+ghost use lib.ListN.{length};
+ghost use Rattle.slices.specs.Bytes.{wordAt};
 ghost use Rattle.spectrum.specs.Clock.{quarter};
-ghost use Rattle.header.specs.Bytes.{at, wordAt, bitAt, bitOf, byte12Of};
-ghost use Rattle.header.specs.Reading.{headerLength, pcAt, pairsBefore, pairsOf, videoOf, switchesOf, carried, soundOf, afterV1, framePosition, side59Of, noSide, sideOf, machineOf};
-ghost use Rattle.header.specs.Writing.{registerBytes, videoBits, byte29, switchBytes, modeByte, portBytes, counterBytes, headerOf};
-ghost use Rattle.header.specs.Heads.{notTaken, versionOf, mode2, mode3, modeOf, clockHead, modeHead, laterHead, firstHead, headOf, takenAs, takenOf};
+ghost use Rattle.header.specs.Heads.{byte12Of, headerLength, versionOf, mode2, mode3, modeOf, clockHead, modeHead, laterHead, firstHead, headOf};
 
 pub enum Version {
     V1,
@@ -44,12 +33,6 @@ pub enum Head {
         model: Model,
         attachment: Attachment,
     },
-}
-
-// A machine from 86 bytes; where they are none that the writer makes, the blank machine.
-pub struct Taken {
-    pub canonical: bool,
-    pub machine: Machine,
 }
 
 pub fn word(s: &[u8], place: usize) -> u16
@@ -103,7 +86,7 @@ fn mode_v2(hardware: u8) -> Mode
     }
 }
 
-fn mode_v3(hardware: u8) -> Mode
+pub fn mode_v3(hardware: u8) -> Mode
     ensures { λ r. ⌜ r ≡ mode3 hardware ⌝ }
 {
     match hardware {
@@ -228,59 +211,4 @@ fn clock_head(file: &[u8], model: Model, attachment: Attachment) -> Head
         model,
         attachment,
     }
-}
-
-// The machine whose header these bytes are; the blank machine where they are none that the writer makes.
-pub fn take_header(s: &[u8]) -> Taken
-    ensures { λ r. ⌜ r ≡ takenOf (now (s .entry)) ⌝ }
-{
-    if s.len() != 86 {
-        return not_taken();
-    }
-    let found = mode_v3(s[34]);
-    match found {
-        Mode::NotCarried => not_taken(),
-        Mode::Carried(model, attachment) => take_as(s, model, attachment),
-    }
-}
-
-fn take_as(s: &[u8], model: Model, attachment: Attachment) -> Taken
-    requires { ⌜ length (now s) ≡ 86 ⌝ }
-    ensures { λ r. ⌜ r ≡ takenAs (machineOf Version.V3 model attachment (now (s .entry))) (now (s .entry)) ⌝ }
-{
-    let m = reading::read_machine(s, Version::V3, model, attachment);
-    if m.valid() {
-        if is_header(m, s) {
-            return Taken {
-                canonical: true,
-                machine: m,
-            };
-        }
-        return not_taken();
-    }
-    not_taken()
-}
-
-fn not_taken() -> Taken
-    ensures { λ r. ⌜ r ≡ notTaken ⌝ }
-{
-    Taken {
-        canonical: false,
-        machine: Machine::blank(),
-    }
-}
-
-// Whether the bytes are the machine's header.
-fn is_header(m: Machine, s: &[u8]) -> bool
-    ensures { λ r. ⌜ r ≡ same (now (s .entry)) (headerOf m) ⌝ }
-{
-    let mut h = [0u8; 86];
-    writing::write_header(m, &mut h);
-    same_bytes(s, &h)
-}
-
-fn same_bytes(s: &[u8], h: &[u8]) -> bool
-    ensures { λ r. ⌜ r ≡ same (now (s .entry)) (now (h .entry)) ⌝ }
-{
-    check::same(s, h)
 }

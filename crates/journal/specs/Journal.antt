@@ -1,49 +1,25 @@
--- What each call does to the machine, the memory, the log and its two numbers, on every input: what the calls' contracts cite.
-use Prim.Native.Nat.{ℕ, _+_, _-_}
+-- What each call does to the machine, the memory, the log and its two numbers, on every input.
+use Prim.Native.Nat.{ℕ}
 use mathlib.Core.List.{List}
-use mathlib.Core.Bool.{Bool, true, false, not}
-use lib.ListN.{length}
-use lib.Dec.{ltb, leb, eqb}
-use Rattle.slices.specs.Choose.{choose, both}
+use mathlib.Core.Bool.{not}
+use lib.ListN.{length, replicate}
+use lib.Dec.{leb, eqb}
+use Rattle.slices.specs.Choose.{both}
 use Rattle.spectrum.specs.declared.Machine.{Machine}
-use Rattle.spectrum.specs.declared.Refusal.{Refusal}
-use Rattle.spectrum.specs.declared.Refusal.the-variants.{InvalidMachine, MemoryLength, NothingToMove, StepDamaged, CountsDisagree}
+use Rattle.spectrum.specs.declared.Refusal.the-variants.{InvalidMachine, MemoryLength, CountsDisagree}
 use Rattle.spectrum.specs.declared.Answer.{Answer}
-use Rattle.spectrum.specs.declared.Answer.the-variants.{Accepted, Refused}
+use Rattle.spectrum.specs.declared.Answer.the-variants.{Accepted}
+use Rattle.spectrum.specs.State.{State}
+use Rattle.spectrum.specs.Numbers.{refuse}
 use Rattle.spectrum.specs.Valid.{validOf}
-use Rattle.journal.specs.declared.Step.{Step}
-use Rattle.journal.specs.declared.Counts.{Counts}
-use Rattle.journal.specs.declared.Done.{Done}
+use Rattle.z80read.specs.Read.{ReadResult, readOf}
+use Rattle.log_steps.specs.declared.Counts.{Counts}
+use Rattle.log_steps.specs.Steps.{capacity}
+use Rattle.log_steps.specs.Session.{Session, CallResult, started, ifAccepted}
+use Rattle.corrections.specs.Corrections.{byteAt, pairTo, outTo, corrected}
+use Rattle.undo.specs.Undo.{undoOf, redoOf}
 use Rattle.journal.specs.declared.Call.{Call}
 use Rattle.journal.specs.declared.Call.the-variants.{Byte, Pair, Out, Undo, Redo}
-use Rattle.journal.specs.Model.{World, Correction, byteAt, pairTo, outTo, make, refuse, refusal}
-use Rattle.journal.specs.Steps.{capacity, putStep, stepAt, stepFor, present, placed, intact}
-
--- all that a call is lent and leaves
-pub record Desk : Type 0 where
-  pub world : World
-  pub log : List ℕ
-  pub standing : ℕ
-  pub total : ℕ
-
-pub record Did : Type 0 where
-  pub answer : Answer
-  pub desk : Desk
-
-abbrev pub deskOn : Machine → List ℕ → List ℕ → Counts → Desk
-deskOn m memory log n = record { world = record { machine = m; memory = memory }; log = log; standing = n .standing; total = n .total }
-
-abbrev pub didOf : Done → List ℕ → List ℕ → Did
-didOf r memory log = record { answer = r .answer; desk = deskOn (r .machine) memory log (r .counts) }
-
--- "The other calls change nothing when refused."
-abbrev pub refused : Desk → Refusal → Did
-refused d why = record { answer = Refused why; desk = d }
-
--- what follows where the answer is accepted
-abbrev pub andThen : Answer → Desk → Did → Did
-andThen Accepted d x = x
-andThen (Refused why) d x = refused d why
 
 -- "20, 21, 29": what every call looks at first
 unfoldable pub soundness : Machine → ℕ → ℕ → ℕ → ℕ → Answer
@@ -52,55 +28,27 @@ soundness m area cap standing total =
     (refuse (not (eqb area 131072)) MemoryLength
     (refuse (not (both (leb standing total) (leb total cap))) CountsDisagree Accepted))
 
-abbrev pub sound : Desk → Did → Did
-sound d x = andThen (soundness (d .world .machine) (length (d .world .memory)) (capacity (d .log)) (d .standing) (d .total)) d x
+abbrev pub called : Call → Session → CallResult
+called (Byte address v) d = corrected (byteAt address v) d
+called (Pair p v) d = corrected (pairTo p v) d
+called (Out v) d = corrected (outTo v) d
+called Undo d = undoOf d
+called Redo d = redoOf d
 
--- "A correction writes step number standing, counted from 0; then standing goes up by one and total becomes equal to it"
-unfoldable pub corrected : Correction → Desk → Did
-corrected c d =
-    andThen (refusal (capacity (d .log)) (d .world) (d .standing) c) d
-    (record {
-      answer = Accepted;
-      desk = record {
-        world = make c (d .world);
-        log = putStep (d .log) (d .standing) (stepFor c (d .world));
-        standing = d .standing + 1;
-        total = d .standing + 1;
-      };
-    })
+abbrev pub ifSound : Session → CallResult → CallResult
+ifSound d x = ifAccepted (soundness (d .state .machine) (length (d .state .memory)) (capacity (length (d .log))) (d .standing) (d .total)) d x
 
-unfoldable pub journalCorrect : Correction → Desk → Did
-journalCorrect c d = sound d (corrected c d)
-
--- v is put where a step points, if the step is intact and `was` is there now; then n stand. No log byte is written.
-abbrev pub moved : Desk → Step → ℕ → ℕ → ℕ → Did
-moved d s was v n =
-    choose (both (intact (d .world .machine .model) s) (eqb (present s (d .world)) was))
-    (record { answer = Accepted; desk = record { world = placed s v (d .world); log = d .log; standing = n; total = d .total } })
-    (refused d StepDamaged)
-
--- "undo puts back the old of step standing - 1": 20, 21, 29, 27, 28
-unfoldable pub journalUndo : Desk → Did
-journalUndo d =
-    sound d
-    (choose (eqb (d .standing) 0) (refused d NothingToMove)
-    (moved d (stepAt (d .log) (d .standing - 1)) (stepAt (d .log) (d .standing - 1) .new) (stepAt (d .log) (d .standing - 1) .old) (d .standing - 1)))
-
--- "redo the new of step standing"
-unfoldable pub journalRedo : Desk → Did
-journalRedo d =
-    sound d
-    (choose (ltb (d .standing) (d .total))
-    (moved d (stepAt (d .log) (d .standing)) (stepAt (d .log) (d .standing) .old) (stepAt (d .log) (d .standing) .new) (d .standing + 1))
-    (refused d NothingToMove))
-
-abbrev pub journalCall : Call → Desk → Did
-journalCall (Byte address v) d = journalCorrect (byteAt address v) d
-journalCall (Pair p v) d = journalCorrect (pairTo p v) d
-journalCall (Out v) d = journalCorrect (outTo v) d
-journalCall Undo d = journalUndo d
-journalCall Redo d = journalRedo d
+-- a call: 20, 21, 29, then its own numbers
+unfoldable pub journalCall : Call → Session → CallResult
+journalCall c d = ifSound d (called c d)
 
 -- "Starting is never refused; it sets the whole log to zero, standing and total to 0."
 abbrev pub startCounts : Counts
 startCounts = record { standing = 0; total = 0 }
+
+abbrev pub startOf : ReadResult → State
+startOf o = record { machine = o .machine; memory = o .memory }
+
+-- a file opened for correction, into an area of n bytes and a log of so many: it is read, and a log is started whether or not it is accepted
+unfoldable pub openOf : List ℕ → ℕ → ℕ → CallResult
+openOf file n size = record { answer = readOf file n .answer; session = started (startOf (readOf file n)) (replicate size 0) }

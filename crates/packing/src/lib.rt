@@ -1,47 +1,19 @@
-// The run-length code of .Z80 files, over any bytes: document 01, "Packed data". It knows nothing of a Spectrum.
-// What stands above relies on specs/Unpacking, specs/Packing and the laws of specs/Packed/Promise.
-mod packer;
-mod runs;
-mod unpacker;
-
-ghost use Prim.Native.Nat.{_+_, _<_};
-ghost use mathlib.Core.Path.{_≡_};
+// Packing. Up to where a code may begin 16 bytes are stored at a time.
+use codewise::pack_rest;
+use codewise::put_run;
+use packed::Fit;
+use runs::run_from;
+use stretches::copy16;
 ghost use lib.ListN.{length};
-ghost use Rattle.packing.specs.Packed.{unpacked, packed};
-ghost use Rattle.packing.specs.Unpacking.{Unpacks};
-ghost use Rattle.packing.specs.Packing.{Packs};
-
-// The answer of unpacking.
-pub enum Unpacked {
-    Good,
-    WrongLength,
-    Malformed,
-}
-
-// The answer of packing.
-pub enum Fit {
-    Length(usize),
-    TooShort,
-}
-
-// src unpacked into dst, which is all zero unless the answer is Good.
-pub fn unpack(src: &[u8], dst: &mut [u8]) -> Unpacked
-    ensures { λ r. ⌜ Unpacks (unpacked (now (src .entry))) (length (now (dst .entry))) r (now (dst .exit)) ⌝ }
-{
-    let r = unpacker::unpack_into(src, dst);
-    match r {
-        Unpacked::Good => return Unpacked::Good,
-        Unpacked::WrongLength => slices::clear_from(dst, 0),
-        Unpacked::Malformed => slices::clear_from(dst, 0),
-    }
-    r
-}
+ghost use Rattle.packed.specs.Packed.{packed};
+ghost use Rattle.packed.specs.Packing.{Packs};
+ghost use Rattle.packed.specs.Inner.{PackedInto};
 
 // src packed into dst, with zeros after it; all zero where dst is too short.
 pub fn pack(src: &[u8], dst: &mut [u8]) -> Fit
     ensures { λ r. ⌜ Packs (packed (now (src .entry))) (length (now (dst .entry))) r (now (dst .exit)) ⌝ }
 {
-    let r = packer::pack_into(src, dst);
+    let r = pack_into(src, dst);
     match r {
         Fit::Length(n) => {
             slices::clear_from(dst, n);
@@ -54,32 +26,47 @@ pub fn pack(src: &[u8], dst: &mut [u8]) -> Fit
     }
 }
 
-// The length of src packed.
-pub fn packed_len(src: &[u8]) -> usize
-    ensures { λ r. ⌜ r ≡ length (packed (now (src .entry))) ⌝ }
+// The loop, while there is much of both: 16 bytes at a time up to where a code may begin, seen by 4 bytes more, and 4 bytes
+// for the code. Where the answer is a length, dst begins with src packed.
+fn pack_into(src: &[u8], dst: &mut [u8]) -> Fit
+    ensures { λ r. ⌜ PackedInto (packed (now (src .entry))) (now (dst .entry)) r (now (dst .exit)) ⌝ }
 {
     let mut i: usize = 0;
-    let mut len: usize = 0;
-    while i < src.len() {
-        let n = runs::run_at(src, i);
-        if src[i] == 237 {
-            if 2 <= n {
-                len += 4;
-                i += n;
-            } else if src.len() <= i + 1 {
-                len += 1;
-                i += 1;
-            } else {
-                len += 2;
-                i += 2;
-            }
-        } else if 5 <= n {
-            len += 4;
-            i += n;
+    let mut o: usize = 0;
+    while i + 20 <= src.len() {
+        if dst.len() < o + 20 {
+            return pack_rest(src, i, dst, o);
+        }
+        let stop = copy16(src, i, dst, o);
+        let k = stop.at;
+        if k == 16 {
+            i += 16;
+            o += 16;
         } else {
-            len += n;
-            i += n;
+            let p = i + k;
+            let q = o + k;
+            let v = src[p];
+            let n = run_from(src, p, stop.unlike);
+            if v == 237 {
+                if 2 <= n {
+                    put_run(dst, q, n, v);
+                    i = p + n;
+                    o = q + 4;
+                } else {
+                    stores::put_two(dst, q, v, src[p + 1]);
+                    i = p + 2;
+                    o = q + 2;
+                }
+            } else if 5 <= n {
+                put_run(dst, q, n, v);
+                i = p + n;
+                o = q + 4;
+            } else {
+                stores::put_short(dst, q, n, v);
+                i = p + n;
+                o = q + n;
+            }
         }
     }
-    len
+    pack_rest(src, i, dst, o)
 }

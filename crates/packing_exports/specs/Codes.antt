@@ -1,9 +1,9 @@
 -- The numbers that the test exports answer: a reviewer may skip them.
 use Prim.Native.Nat.{ℕ}
-use Rattle.packing.specs.declared.Unpacked.{Unpacked}
-use Rattle.packing.specs.declared.Unpacked.the-variants.{Good, WrongLength, Malformed}
-use Rattle.packing.specs.declared.Fit.{Fit}
-use Rattle.packing.specs.declared.Fit.the-variants.{Length, TooShort}
+use Rattle.packed.specs.declared.Unpacked.{Unpacked}
+use Rattle.packed.specs.declared.Unpacked.the-variants.{Good, WrongLength, Malformed}
+use Rattle.packed.specs.declared.Fit.{Fit}
+use Rattle.packed.specs.declared.Fit.the-variants.{Length, TooShort}
 
 abbrev pub unpackCode : Unpacked → ℕ
 unpackCode Good = 0

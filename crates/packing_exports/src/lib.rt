@@ -1,11 +1,11 @@
-// The packing crate's functions under C names, for tests and benchmarks only.
-use packing::Fit;
-use packing::Unpacked;
+// Packing and unpacking under C names, for tests and benchmarks only.
+use packed::Fit;
+use packed::Unpacked;
 ghost use mathlib.Core.Path.{_≡_};
 ghost use lib.ListN.{length};
-ghost use Rattle.packing.specs.Packed.{unpacked, packed};
-ghost use Rattle.packing.specs.Unpacking.{answerOf, leftBy};
-ghost use Rattle.packing.specs.Packing.{fits, fitted};
+ghost use Rattle.packed.specs.Packed.{unpacked, packed};
+ghost use Rattle.packed.specs.Unpacking.{answerOf, leftBy};
+ghost use Rattle.packed.specs.Packing.{fits, fitted};
 ghost use Rattle.packing_exports.specs.Codes.{unpackCode, packCode, lengthIn};
 
 // 0 good, 1 malformed, 2 wrong length.
@@ -13,7 +13,7 @@ ghost use Rattle.packing_exports.specs.Codes.{unpackCode, packCode, leng
 pub extern "C" fn packing_unpack(src: &[u8], dst: &mut [u8]) -> u32
     ensures { λ r. ⌜ (r ≡ unpackCode (answerOf (unpacked (now (src .entry))) (length (now (dst .entry))))) × (now (dst .exit) ≡ leftBy (unpacked (now (src .entry))) (length (now (dst .entry)))) ⌝ }
 {
-    unpack_code(packing::unpack(src, dst))
+    unpack_code(unpacking::unpack(src, dst))
 }
 
 // 0 and the packed length, or 1 and length 0 where dst is too short.
@@ -31,7 +31,7 @@ pub extern "C" fn packing_pack(src: &[u8], dst: &mut [u8], size: &mut u64) -> u3
 pub extern "C" fn packing_packed_len(src: &[u8]) -> u64
     ensures { λ r. ⌜ r ≡ length (packed (now (src .entry))) ⌝ }
 {
-    packing::packed_len(src) as u64
+    measuring::packed_len(src) as u64
 }
 
 fn unpack_code(r: Unpacked) -> u32

@@ -3,13 +3,13 @@ use Prim.Native.Nat.{ℕ, _<_}
 use mathlib.Core.Path.{_≡_, sym, ap, subst, _∙_}
 use mathlib.Core.List.{List}
 use lib.ListN.{length, getD}
-use Rattle.header.specs.Writing.{HeaderFor}
+use Rattle.header_write.specs.Writing.{HeaderFor}
 use Rattle.z80read.specs.Read.{readOf}
 use Rattle.z80read.proofs.Typed.{read-typed}
 use Rattle.z80file.proofs.File.{read-start}
-use Rattle.snapshot.specs.Files.{ReadBytes, readOfBytes, ReadsBytes}
-use Rattle.snapshot.specs.Journal.{Buffers}
-use Rattle.snapshot.proofs.Accepted.{read-0}
+use Rattle.file_bytes.specs.Files.{ReadBytes, readOfBytes, ReadsBytes}
+use Rattle.journal_bytes.specs.Calls.{Buffers}
+use Rattle.file_bytes.proofs.Accepted.{read-0}
 use Rattle.server.specs.Server.{startedBuffers, RanBytes, ModelBytes, Serves, ServesFile}
 
 pub file-serves : (file : List ℕ) (n k : ℕ) (head area log b : List ℕ) (room r c : ℕ) (x : Buffers) (numbers : List ℕ) → ((i : ℕ) → getD file i 0 < 256)

@@ -9,41 +9,35 @@ use lib.ListN.{length, getD, set, take, replicate, length-set}
 use lib.Seq.{take-suc-set, append-snoc}
 use Rattle.slices.specs.Choose.{choose}
 use Rattle.spectrum.specs.declared.Machine.{Machine}
-use Rattle.header.specs.Writing.{headerOf, HeaderFor}
-use Rattle.header.specs.Heads.{takenOf}
-use Rattle.header.proofs.Canonical.{taken-is}
+use Rattle.header_write.specs.Writing.{headerOf, HeaderFor}
+use Rattle.header_canonical.specs.Canonical.{decodedOf, badHeader}
+use Rattle.header_canonical.proofs.Canonical.{decoded-is}
 use Rattle.journal.specs.declared.Call.{Call}
-use Rattle.journal.specs.declared.Call.the-variants.{Byte, Pair, Out, Undo, Redo}
-use Rattle.journal.specs.Model.{World, byteAt, pairTo, outTo, emptyBench, modelAfter}
-use Rattle.journal.specs.Steps.{capacity}
-use Rattle.journal.specs.Journal.{Desk, Did, journalCorrect, journalUndo, journalRedo}
-use Rattle.journal.specs.Claim.{Fit}
-use Rattle.replay.specs.Replay.{callAt, callsFrom, callCount, callsIn}
-use Rattle.replay.proofs.Turns.{calls-more, wide-all}
+use Rattle.spectrum.specs.State.{State}
+use Rattle.claim.specs.History.{modelHistory}
+use Rattle.log_steps.specs.Session.{Session, CallResult}
+use Rattle.claim.specs.Claim.{ValidStart}
+use Rattle.call_list.specs.CallList.{callAt, callsFrom, callCount, callsIn}
+use Rattle.call_list.proofs.Decode.{calls-more, typed-all}
 use Rattle.spectrum.proofs.Numbers.{number-small}
-use Rattle.snapshot.specs.Files.{badHeader}
-use Rattle.snapshot.specs.Journal.{Buffers, Answered, deskFor, answeredBy, callOn, Leaves}
-use Rattle.server.specs.Server.{snapCall, runBuffers, runNumbers, startedBuffers, buffers, BenchBytes, CallMade, RanBytes, Serves}
-use Rattle.server.proofs.Claim.{byte-claim, byte-still}
-
--- what a call leaves, as one equation
-pub leaves-is : (x : Answered) (r : ℕ) (h a l : List ℕ) (s t : ℕ) → Leaves x r h a l s t → record { answer = r; left = buffers h a l s t } ≡ x
-leaves-is x r h a l s t e = λ k. record { answer = e .answer k; left = buffers (e .header k) (e .area k) (e .log k) (e .standing k) (e .total k) }
+use Rattle.journal_bytes.specs.Calls.{Buffers, buffers, Answered, sessionFor, answeredBy, callOn, snapCall, CallLeaves}
+use Rattle.server.specs.Server.{runBuffers, runNumbers, startedBuffers, HistoryBytes, RanBytes, Serves}
+use Rattle.server.proofs.Claim.{byte-claim}
 
 -- every number answered is a byte
-answer-small : (f : Desk → Did) (b : Buffers) → callOn f b .answer < 256
+answer-small : (f : Session → CallResult) (b : Buffers) → callOn f b .answer < 256
 unfolding callOn
-answer-small f b = go (takenOf (b .header) .canonical)
+answer-small f b = go (decodedOf (b .header) .canonical)
   where
-    made : Did
-    made = f (deskFor (takenOf (b .header) .machine) b)
+    made : CallResult
+    made = f (sessionFor (decodedOf (b .header) .machine) b)
 
     go : (t : Bool) → choose t (answeredBy made) (record { answer = badHeader; left = b }) .answer < 256
     go true = number-small (made .answer)
     go false = omega arith
 
-pub number-fits : (f : Desk → Did) (b : Buffers) (r : ℕ) (h a l : List ℕ) (s t : ℕ) → Leaves (callOn f b) r h a l s t → r < 256
-number-fits f b r h a l s t e = omega (arith, e .answer, answer-small f b)
+pub number-fits : (f : Session → CallResult) (b : Buffers) (r : ℕ) (x : Buffers) → CallLeaves (callOn f b) r x → r < 256
+number-fits f b r x e = omega (arith, e .answer, answer-small f b)
 
 pub record Going (calls : List ℕ) (n : ℕ) (x₀ x : Buffers) (numbers₀ numbers : List ℕ) (i : ℕ) : Type 0 where
   pub reach : i ≤ n
@@ -57,13 +51,13 @@ going-none calls n x numbers h =
     let q : n - 0 ≡ n = omega arith in
     record { reach = omega arith; fits = h; long = refl; rest = rw q; said = rw q }
 
-pub going-more : (calls : List ℕ) (n : ℕ) (x₀ x : Buffers) (numbers₀ numbers : List ℕ) (i : ℕ) (call : Call) (r : ℕ) (h a l : List ℕ) (s t : ℕ)
-    → Going calls n x₀ x numbers₀ numbers i → i < n → call ≡ callAt calls i → Leaves (snapCall call x) r h a l s t
-    → Going calls n x₀ (buffers h a l s t) numbers₀ (set numbers i r) (i + 1)
-going-more calls n x₀ x numbers₀ numbers i call r h a l s t g lt ec e =
+pub going-more : (calls : List ℕ) (n : ℕ) (x₀ x : Buffers) (numbers₀ numbers : List ℕ) (i : ℕ) (call : Call) (r : ℕ) (x′ : Buffers)
+    → Going calls n x₀ x numbers₀ numbers i → i < n → call ≡ callAt calls i → CallLeaves (snapCall call x) r x′
+    → Going calls n x₀ x′ numbers₀ (set numbers i r) (i + 1)
+going-more calls n x₀ x numbers₀ numbers i call r x′ g lt ec e =
     let left = callsFrom calls (i + 1) (n - (i + 1)) in
-    let e2 : record { answer = r; left = buffers h a l s t } ≡ snapCall (callAt calls i) x = leaves-is _ r h a l s t e ∙ ap (λ (c : Call). snapCall c x) ec in
-    let more = runNumbers snapCall (buffers h a l s t) left in
+    let e2 : record { answer = r; left = x′ } ≡ snapCall (callAt calls i) x = (λ k. record { answer = e .answer k; left = e .left k }) ∙ ap (λ (c : Call). snapCall c x) ec in
+    let more = runNumbers snapCall x′ left in
     record {
       reach = omega arith;
       fits = g .fits;
@@ -91,14 +85,14 @@ going-done calls n x₀ x numbers₀ numbers numbers′ i g h en e =
     }
 
 -- bytes that are no valid machine's header are not taken
-not-taken : (head : List ℕ) → ((i : ℕ) → getD head i 0 < 256) → ((m : Machine) → HeaderFor m head → ⊥) → takenOf head .canonical ≡ false
-not-taken head hb none = go (takenOf head .canonical) refl
+not-canonical : (head : List ℕ) → ((i : ℕ) → getD head i 0 < 256) → ((m : Machine) → HeaderFor m head → ⊥) → decodedOf head .canonical ≡ false
+not-canonical head hb none = go (decodedOf head .canonical) refl
   where
-    go : (t : Bool) → takenOf head .canonical ≡ t → takenOf head .canonical ≡ false
-    go true e = absurd (none _ (taken-is head hb e))
+    go : (t : Bool) → decodedOf head .canonical ≡ t → decodedOf head .canonical ≡ false
+    go true e = absurd (none _ (decoded-is head hb e))
     go false e = e
 
-module _ (x : Buffers) (h : takenOf (x .header) .canonical ≡ false) where
+module _ (x : Buffers) (h : decodedOf (x .header) .canonical ≡ false) where
   call-other : (c : Call) → snapCall c x ≡ record { answer = badHeader; left = x }
   unfolding callOn
   call-other c = rw h
@@ -126,42 +120,18 @@ serves head area log zeros calls room r s t x numbers hb ab cb ez es et er g₀ 
       count = er;
       ran = g;
       claim = λ m f a.
-          let start : World = record { machine = m; memory = area } in
-          let fit : Fit start = record { valid = f .valid; area = a; typed = f .typed; bytes = ab } in
-          let q = byte-claim start log fit cs (wide-all calls cb 0 (callCount calls room)) in
+          let start : State = record { machine = m; memory = area } in
+          let fit : ValidStart start = record { valid = f .valid; area = a; typed = f .typed; bytes = ab } in
+          let q = byte-claim start log fit cs (typed-all calls cb 0 (callCount calls room)) in
           let h : startedBuffers head area (length log) ≡ startedBuffers (headerOf m) area (length log) = λ k. startedBuffers (f .is k) area (length log) in
           record {
-            left = subst (BenchBytes start (modelAfter start (capacity log) emptyBench cs)) (sym (g .left ∙ ap (λ (y : Buffers). runBuffers snapCall y cs) h)) (q .left);
+            left = subst (HistoryBytes start (modelHistory start (length log) cs)) (sym (g .left ∙ ap (λ (y : Buffers). runBuffers snapCall y cs) h)) (q .left);
             said = g .said ∙ ap (λ (y : Buffers). runNumbers snapCall y cs ++ replicate left 0) h ∙ ap (λ (z : List ℕ). z ++ replicate left 0) (q .numbers);
           };
       not-ours = λ none.
-          let v = not-taken head hb none in
+          let v = not-canonical head hb none in
           record {
             left = g .left ∙ buffers-other (startedBuffers head area (length log)) v cs;
             said = g .said ∙ ap (λ (z : List ℕ). z ++ replicate left 0) (numbers-other (startedBuffers head area (length log)) v calls 0 (callCount calls room));
           };
     }
-
--- the promise of `call_made`, by the function that makes the call
-module _ (call : Call) (b : Buffers) (r : ℕ) (h a l : List ℕ) (s t : ℕ) where
-  called : Leaves (snapCall call b) r h a l s t → CallMade call b r (buffers h a l s t)
-  called p =
-      record {
-        leaves = p;
-        still = λ n. ap (λ (x : Answered). x .left) (leaves-is (snapCall call b) r h a l s t p) ∙ byte-still call b (λ z. n (p .answer ∙ z));
-      }
-
-  pub byte-made : (address v : ℕ) → call ≡ Byte address v → Leaves (callOn (journalCorrect (byteAt address v)) b) r h a l s t → CallMade call b r (buffers h a l s t)
-  byte-made address v e q = called (rw e q)
-
-  pub pair-made : (p v : ℕ) → call ≡ Pair p v → Leaves (callOn (journalCorrect (pairTo p v)) b) r h a l s t → CallMade call b r (buffers h a l s t)
-  pair-made p v e q = called (rw e q)
-
-  pub out-made : (v : ℕ) → call ≡ Out v → Leaves (callOn (journalCorrect (outTo v)) b) r h a l s t → CallMade call b r (buffers h a l s t)
-  out-made v e q = called (rw e q)
-
-  pub undo-made : call ≡ Undo → Leaves (callOn journalUndo b) r h a l s t → CallMade call b r (buffers h a l s t)
-  undo-made e q = called (rw e q)
-
-  pub redo-made : call ≡ Redo → Leaves (callOn journalRedo b) r h a l s t → CallMade call b r (buffers h a l s t)
-  redo-made e q = called (rw e q)

@@ -6,20 +6,17 @@ use mathlib.Core.List.{List, [], _∷_, _++_, map}
 use lib.ListN.{length, replicate}
 use Rattle.spectrum.specs.declared.Machine.{Machine}
 use Rattle.spectrum.specs.Numbers.{numberOf}
-use Rattle.header.specs.Writing.{headerOf, HeaderFor}
+use Rattle.header_write.specs.Writing.{headerOf, HeaderFor}
+use Rattle.header_canonical.specs.Canonical.{badHeader}
 use Rattle.journal.specs.declared.Call.{Call}
-use Rattle.journal.specs.Model.{World, Bench, made, emptyBench, modelAfter, modelAnswers}
-use Rattle.journal.specs.Steps.{capacity}
-use Rattle.journal.specs.Journal.{journalCall}
-use Rattle.journal.specs.Claim.{Fit, WideCalls}
+use Rattle.spectrum.specs.State.{State}
+use Rattle.claim.specs.History.{History, made, noHistory, modelHistory, modelAnswers}
+use Rattle.claim.specs.Claim.{ValidStart, TypedCalls}
 use Rattle.z80read.specs.Read.{readOf}
-use Rattle.replay.specs.Replay.{callCount, callsIn, numbersIn, startOf}
-use Rattle.snapshot.specs.Files.{badHeader, readOfBytes}
-use Rattle.snapshot.specs.Journal.{Buffers, Answered, callOn, Leaves}
-
--- a call over bytes, as the contracts of the exported functions say it
-abbrev pub snapCall : Call → Buffers → Answered
-snapCall c b = callOn (journalCall c) b
+use Rattle.call_list.specs.CallList.{callCount, callsIn, numbersIn}
+use Rattle.journal.specs.Journal.{startOf}
+use Rattle.file_bytes.specs.Files.{readOfBytes}
+use Rattle.journal_bytes.specs.Calls.{Buffers, buffers, Answered, snapCall}
 
 -- buffers after a list of calls, each made by f on what the last one left, and the numbers answered
 abbrev pub runBuffers : (Call → Buffers → Answered) → Buffers → List Call → Buffers
@@ -30,15 +27,12 @@ abbrev pub runNumbers : (Call → Buffers → Answered) → Buffers → List Cal
 runNumbers f b [] = []
 runNumbers f b (c ∷ cs) = f c b .answer ∷ runNumbers f (f c b .left) cs
 
-abbrev pub buffers : List ℕ → List ℕ → List ℕ → ℕ → ℕ → Buffers
-buffers header area log standing total = record { header = header; area = area; log = log; standing = standing; total = total }
-
 -- "Starting .. sets the whole log to zero, standing and total to 0": a log of n bytes
 abbrev pub startedBuffers : List ℕ → List ℕ → ℕ → Buffers
 startedBuffers header area n = buffers header area (replicate n 0) 0 0
 
 -- buffers that hold what the paper bench says: the start with the standing corrections made afresh, how many stand, how many stand or wait
-pub record BenchBytes (start : World) (b : Bench) (x : Buffers) : Type 0 where
+pub record HistoryBytes (start : State) (b : History) (x : Buffers) : Type 0 where
   pub header : x .header ≡ headerOf (made start (b .applied) .machine)
   pub area : x .area ≡ made start (b .applied) .memory
   pub standing : x .standing ≡ length (b .applied)
@@ -46,20 +40,15 @@ pub record BenchBytes (start : World) (b : Bench) (x : Buffers) : Type 0 where
 
 -- the claim of a way f to make calls over bytes: after this list, from the header and the area of this start and this log just started,
 -- header, area, both numbers and every answer are the model's
-pub record ByteClaim (f : Call → Buffers → Answered) (start : World) (log : List ℕ) (calls : List Call) : Type 0 where
-  pub left : BenchBytes start (modelAfter start (capacity log) emptyBench calls)
+pub record ByteClaim (f : Call → Buffers → Answered) (start : State) (log : List ℕ) (calls : List Call) : Type 0 where
+  pub left : HistoryBytes start (modelHistory start (length log) calls)
       (runBuffers f (startedBuffers (headerOf (start .machine)) (start .memory) (length log)) calls)
   pub numbers : runNumbers f (startedBuffers (headerOf (start .machine)) (start .memory) (length log)) calls
-      ≡ map numberOf (modelAnswers start (capacity log) emptyBench calls)
+      ≡ map numberOf (modelAnswers start (length log) noHistory calls)
 
 -- DEMAND 3, IN BYTES, of a way f to make calls
 abbrev pub ByteClaimOf : (Call → Buffers → Answered) → Type 0
-ByteClaimOf f = (start : World) (log : List ℕ) → Fit start → (calls : List Call) → WideCalls calls → ByteClaim f start log calls
-
--- the promise of `call_made`: every number and byte is the definition's; refused, every buffer and both numbers are as they were
-pub record CallMade (c : Call) (b : Buffers) (r : ℕ) (x : Buffers) : Type 0 where
-  pub leaves : Leaves (snapCall c b) r (x .header) (x .area) (x .log) (x .standing) (x .total)
-  pub still : (r ≡ 0 → ⊥) → x ≡ b
+ByteClaimOf f = (start : State) (log : List ℕ) → ValidStart start → (calls : List Call) → TypedCalls calls → ByteClaim f start log calls
 
 -- What the calls leave, said by the calls' own definitions: every buffer, the number of every answer, and zeros past them.
 pub record RanBytes (encoded : List ℕ) (room : ℕ) (x₀ x : Buffers) (numbers : List ℕ) : Type 0 where
@@ -67,9 +56,9 @@ pub record RanBytes (encoded : List ℕ) (room : ℕ) (x₀ x : Buffers) (number
   pub said : numbers ≡ runNumbers snapCall x₀ (callsIn encoded room) ++ replicate (room - callCount encoded room) 0
 
 -- what the model says of a run from a start: the buffers, and the number of every answer
-pub record ModelBytes (start : World) (log encoded : List ℕ) (room : ℕ) (x : Buffers) (numbers : List ℕ) : Type 0 where
-  pub left : BenchBytes start (modelAfter start (capacity log) emptyBench (callsIn encoded room)) x
-  pub said : numbers ≡ numbersIn (modelAnswers start (capacity log) emptyBench (callsIn encoded room)) (room - callCount encoded room)
+pub record ModelBytes (start : State) (log encoded : List ℕ) (room : ℕ) (x : Buffers) (numbers : List ℕ) : Type 0 where
+  pub left : HistoryBytes start (modelHistory start (length log) (callsIn encoded room)) x
+  pub said : numbers ≡ numbersIn (modelAnswers start (length log) noHistory (callsIn encoded room)) (room - callCount encoded room)
 
 -- after the start of the log nothing is changed, and every call answers 20
 pub record Untouched (encoded : List ℕ) (room : ℕ) (x₀ x : Buffers) (numbers : List ℕ) : Type 0 where

@@ -1,6 +1,6 @@
 -- Laws of a chosen case and of equality as a test.
 use mathlib.Core.Path.{_≡_, refl, sym, ap, _∙_}
-use mathlib.Core.Bool.{Bool, true, false}
+use mathlib.Core.Bool.{Bool, true, false, not}
 use Prim.Native.Nat.{ℕ}
 use native.Mathlib.Omega.{arith}
 use mathlib.Core.List.{List, [], _∷_}
@@ -40,3 +40,7 @@ same-is xs ys r f g = go r (same xs ys) refl refl
     go true false p q = let z : true ≡ false = sym (same-refl ys) ∙ ap (λ (l : List ℕ). same l ys) (sym (f p)) ∙ q in cc
     go false true p q = let z : false ≡ true = sym p ∙ g (same-true xs ys q) in cc
     go false false p q = cc
+
+pub not-flip : (t : Bool) → not t ≡ false → t ≡ true
+not-flip true e = refl
+not-flip false e = let z : _≡_ {A = ℕ} 0 1 = cc in absurd (omega arith)

@@ -2,3 +2,4 @@ pub mod Choose
 pub mod Same
 pub mod Put
 pub mod Blank
+pub mod Bytes

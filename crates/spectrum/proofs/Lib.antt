@@ -2,5 +2,5 @@ pub mod Zeros
 pub mod Places
 pub mod Validity
 pub mod Numbers
-pub mod Clock
+pub mod Counters
 pub mod Theorems

@@ -1,12 +1,13 @@
 -- Numbers and answers.
 use Prim.Native.Nat.{ℕ, _<_}
 use mathlib.Core.Path.{_≡_, refl}
+use mathlib.Core.Bool.{Bool, true, false}
 use native.Mathlib.Omega.{arith}
 use Rattle.spectrum.specs.declared.Refusal.{Refusal}
 use Rattle.spectrum.specs.declared.Refusal.the-variants.{AreaLength, FileShort, UnknownVersion, ModeNotCarried, InterruptMode, CounterRange, Byte60, BlockCut, BlockNumber, BlockTwice, MalformedData, UnpackedLength, BlockMissing, EndMarker, InvalidMachine, MemoryLength, OutputShort, RomAddress, OutOn48k, PagingLocked, JournalFull, NothingToMove, StepDamaged, CountsDisagree, PageNotOwned, RomLength, PairNumber}
 use Rattle.spectrum.specs.declared.Answer.{Answer}
 use Rattle.spectrum.specs.declared.Answer.the-variants.{Accepted, Refused}
-use Rattle.spectrum.specs.Numbers.{refusalNumber, numberOf}
+use Rattle.spectrum.specs.Numbers.{refusalNumber, numberOf, refuse}
 
 -- the numbers of refusals are bytes, and none is 0
 number-in : (why : Refusal) → (0 < refusalNumber why) × (refusalNumber why < 256)
@@ -49,3 +50,7 @@ number-small (Refused why) = number-in why .1
 -- a refusal is not an acceptance
 pub refused-not : (why : Refusal) → Refused why ≡ Accepted → ⊥
 refused-not why p = let z : _≡_ {A = ℕ} 0 1 = cc in omega arith
+
+pub refuse-not : (t : Bool) (w : Refusal) (a : Answer) → refuse t w a ≡ Accepted → (t ≡ false) × (a ≡ Accepted)
+refuse-not true w a e = absurd (refused-not w e)
+refuse-not false w a e = (refl, e)

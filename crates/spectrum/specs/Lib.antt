@@ -1,5 +1,6 @@
 pub mod Numbers
 pub mod Machine
+pub mod State
 pub mod Clock
 pub mod Pages
 pub mod Valid

@@ -1,6 +1,7 @@
 -- The blank machine, and a machine with one pair or the last OUT to 7FFD changed.
 use Prim.Native.Nat.{ℕ}
 use mathlib.Core.Bool.{false}
+use mathlib.Core.List.{List}
 use lib.ListN.{set, replicate}
 use Rattle.spectrum.specs.declared.Machine.{Machine}
 use Rattle.spectrum.specs.declared.Model.the-variants.{K48}
@@ -28,17 +29,17 @@ blankMachine =
       side = replicate 25 0;
     }
 
--- the pair p has the value v
-unfoldable pub withPair : Machine → ℕ → ℕ → Machine
-withPair m p v =
+-- the machine with other pairs and another last OUT to 7FFD
+abbrev pub changed : Machine → List ℕ → ℕ → Machine
+changed m pairs out =
     record {
-      pairs = set (m .pairs) p v;
+      pairs = pairs;
       i = m .i;
       r = m .r;
       switches = m .switches;
       model = m .model;
       attachment = m .attachment;
-      out7ffd = m .out7ffd;
+      out7ffd = out;
       byte36 = m .byte36;
       remulation = m .remulation;
       ldiremulation = m .ldiremulation;
@@ -49,23 +50,10 @@ withPair m p v =
       side = m .side;
     }
 
+-- the pair p has the value v
+unfoldable pub withPair : Machine → ℕ → ℕ → Machine
+withPair m p v = changed m (set (m .pairs) p v) (m .out7ffd)
+
 -- the last OUT to 7FFD is v
 unfoldable pub withOut : Machine → ℕ → Machine
-withOut m v =
-    record {
-      pairs = m .pairs;
-      i = m .i;
-      r = m .r;
-      switches = m .switches;
-      model = m .model;
-      attachment = m .attachment;
-      out7ffd = v;
-      byte36 = m .byte36;
-      remulation = m .remulation;
-      ldiremulation = m .ldiremulation;
-      outfffd = m .outfffd;
-      sound = m .sound;
-      position = m .position;
-      side59 = m .side59;
-      side = m .side;
-    }
+withOut m v = changed m (m .pairs) v

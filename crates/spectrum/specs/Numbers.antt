@@ -1,5 +1,6 @@
 -- Document 01, "Numbers a caller gets".
 use Prim.Native.Nat.{ℕ}
+use mathlib.Core.Bool.{Bool, true, false}
 use Rattle.spectrum.specs.declared.Refusal.{Refusal}
 use Rattle.spectrum.specs.declared.Refusal.the-variants.{AreaLength, FileShort, UnknownVersion, ModeNotCarried, InterruptMode, CounterRange, Byte60, BlockCut, BlockNumber, BlockTwice, MalformedData, UnpackedLength, BlockMissing, EndMarker, InvalidMachine, MemoryLength, OutputShort, RomAddress, OutOn48k, PagingLocked, JournalFull, NothingToMove, StepDamaged, CountsDisagree, PageNotOwned, RomLength, PairNumber}
 use Rattle.spectrum.specs.declared.Answer.{Answer}
@@ -38,3 +39,8 @@ refusalNumber PairNumber = 32
 abbrev pub numberOf : Answer → ℕ
 numberOf Accepted = 0
 numberOf (Refused why) = refusalNumber why
+
+-- refused where a test holds, else what follows: "the first number of its order that holds"
+abbrev pub refuse : Bool → Refusal → Answer → Answer
+refuse true why a = Refused why
+refuse false why a = a

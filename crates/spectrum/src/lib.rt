@@ -1,13 +1,13 @@
 // A Spectrum's state as one record by value, its pages and paging, the frame clock, and the numbers that calls answer.
-ghost use Prim.Native.Nat.{ℕ, _-_, _<_};
+pub mod clock;
+pub mod pages;
+
 ghost use mathlib.Core.Path.{_≡_};
-ghost use mathlib.Core.Bool.{not};
 ghost use lib.ListN.{getD};
 ghost use lib.Dec.{ltb};
 ghost use Rattle.spectrum.specs.Machine.{withPair, withOut, blankMachine};
 ghost use Rattle.spectrum.specs.Valid.{Typed, zeros, quietOf, validOf};
-ghost use Rattle.spectrum.specs.Pages.{owned, topPage, placeOf};
-ghost use Rattle.spectrum.specs.Clock.{quarter, positionOf, lowOf, highOf, clockEnd};
+ghost use Rattle.spectrum.specs.Pages.{placeOf};
 ghost use Rattle.spectrum.specs.Numbers.{numberOf, refusalNumber};
 
 pub enum Model {
@@ -61,6 +61,12 @@ pub struct Machine {
     // the 26 side bytes: byte 59, and bytes 61 to 85
     pub side59: u8,
     pub side: [u8; 25],
+}
+
+// A block number of a file and the RAM page that it stands for.
+pub struct Slot {
+    pub number: u8,
+    pub page: usize,
 }
 
 // Where an address of the processor leads.
@@ -142,18 +148,20 @@ impl Machine {
         }
     }
 
+    // 0 where there is no such pair.
     pub fn pair(self, p: usize) -> u16
-        requires { ⌜ p < 12 ⌝ }
         ensures { λ r. ⌜ r ≡ getD (self .pairs) p 0 ⌝ }
     {
-        self.pairs[p]
+        if p < 12 { self.pairs[p] } else { 0 }
     }
 
+    // The machine as it is where there is no such pair.
     pub fn with_pair(mut self, p: usize, value: u16) -> Machine
-        requires { ⌜ p < 12 ⌝ }
         ensures { λ r. ⌜ r ≡ withPair self p value ⌝ }
     {
-        self.pairs[p] = value;
+        if p < 12 {
+            self.pairs[p] = value;
+        }
         self
     }
 
@@ -173,7 +181,7 @@ impl Machine {
         let im = below(switches.im as u32, 3);
         let border = below(switches.border as u32, 8);
         let joystick = below(switches.joystick as u32, 4);
-        let position = below(self.position, clock_end(model));
+        let position = below(self.position, clock::clock_end(model));
         let quiet = self.quiet();
         slices::and(
             im,
@@ -201,26 +209,7 @@ impl Machine {
         ensures { λ r. ⌜ r ≡ placeOf (self .model) (self .out7ffd) address ⌝ }
     {
         let model = self.model;
-        let a = address as usize;
-        if a < 16384 {
-            return Place::Rom;
-        }
-        if a < 32768 {
-            return Place::Ram {
-                page: 5,
-                offset: a - 16384,
-            };
-        }
-        if a < 49152 {
-            return Place::Ram {
-                page: 2,
-                offset: a - 32768,
-            };
-        }
-        Place::Ram {
-            page: top_page(model, self.out7ffd),
-            offset: a - 49152,
-        }
+        pages::place(model, self.out7ffd, address)
     }
 
     // What the types of the fields say, for a caller's proof.
@@ -252,77 +241,6 @@ fn silent(sound: &[u8]) -> bool
         i += 1;
     }
     true
-}
-
-fn clock_end(model: Model) -> u32
-    ensures { λ r. ⌜ r ≡ clockEnd model ⌝ }
-{
-    match model {
-        Model::K48 => 69888,
-        Model::K128 => 70908,
-    }
-}
-
-// a less b, and 0 where b is the greater.
-fn less(a: u32, b: u32) -> u32
-    ensures { λ r. ⌜ r ≡ a - b ⌝ }
-{
-    if a < b { 0 } else { a - b }
-}
-
-// The frame position for two counters.
-pub fn position(model: Model, low: u16, high: u8) -> u32
-    ensures { λ r. ⌜ r ≡ positionOf model low high ⌝ }
-{
-    let turn = (high as u32 + 1) % 4;
-    let back = low as u32;
-    match model {
-        Model::K48 => turn * 17472 + less(17471, back),
-        Model::K128 => turn * 17727 + less(17726, back),
-    }
-}
-
-// The low counter at a frame position.
-pub fn low_counter(model: Model, position: u32) -> u32
-    ensures { λ r. ⌜ r ≡ lowOf model position ⌝ }
-{
-    match model {
-        Model::K48 => 17471 - position % 17472,
-        Model::K128 => 17726 - position % 17727,
-    }
-}
-
-// The high counter at a frame position.
-pub fn high_counter(model: Model, position: u32) -> u32
-    ensures { λ r. ⌜ r ≡ highOf model position ⌝ }
-{
-    match model {
-        Model::K48 => (position / 17472 + 3) % 4,
-        Model::K128 => (position / 17727 + 3) % 4,
-    }
-}
-
-// Whether a machine owns a RAM page.
-pub fn owns(model: Model, page: usize) -> bool
-    ensures { λ r. ⌜ r ≡ owned model page ⌝ }
-{
-    if 8 <= page {
-        return false;
-    }
-    let pages48 = [true, false, true, false, false, true, false, false];
-    match model {
-        Model::K48 => pages48[page],
-        Model::K128 => true,
-    }
-}
-
-fn top_page(model: Model, out: u8) -> usize
-    ensures { λ r. ⌜ r ≡ topPage model out ⌝ }
-{
-    match model {
-        Model::K48 => 0,
-        Model::K128 => (out % 8) as usize,
-    }
 }
 
 // The number of an answer.

@@ -17,10 +17,11 @@ use Rattle.spectrum.specs.declared.Answer.{Answer}
 use Rattle.spectrum.specs.declared.Answer.the-variants.{Accepted, Refused}
 use Rattle.spectrum.specs.Pages.{owned}
 use Rattle.spectrum.specs.Valid.{validOf}
-use Rattle.journal.proofs.Held.{refuse-not, not-flip}
+use Rattle.slices.proofs.Chosen.{not-flip}
+use Rattle.spectrum.proofs.Numbers.{refuse-not}
 use Rattle.view.specs.declared.Part.{Part}
 use Rattle.view.specs.declared.Part.the-variants.{Nowhere, InArea, InRom}
-use Rattle.view.specs.View.{romLength, romPages, hasPage, viewAnswer, partFor, bytesOf, viewOf}
+use Rattle.view.specs.View.{romLength, romPages, hasPage, viewAnswer, partFor, partBytes, viewOf}
 
 pub page-ram : (k : Model) (p : ℕ) (r : Bool) → p < 8 → r ≡ owned k p → r ≡ hasPage k p
 page-ram k p r h e = rw (lt-ltb p 8 h) e
@@ -107,14 +108,14 @@ module _ (m : Machine) (rom area page : ℕ) (p : Part) (e : p ≡ partFor (view
               omega (arith, eqb-true rom (romLength (m .model)) (not-flip (eqb rom (romLength (m .model))) (d .0)))
 
 module _ (m : Machine) (rom area : List ℕ) (page : ℕ) (p : Part) (e : p ≡ partFor (viewAnswer m (length rom) (length area) page) page) where
-  viewed : bytesOf p rom area ≡ viewOf m rom area page
-  viewed = ap (λ (x : Part). bytesOf x rom area) e
+  viewed : partBytes p rom area ≡ viewOf m rom area page
+  viewed = ap (λ (x : Part). partBytes x rom area) e
 
   pub view-none : p ≡ Nowhere → take (0 - 0) (drop 0 area) ≡ viewOf m rom area page
-  view-none q = sym (ap (λ (x : Part). bytesOf x rom area) q) ∙ viewed
+  view-none q = sym (ap (λ (x : Part). partBytes x rom area) q) ∙ viewed
 
   pub view-area : (start : ℕ) → p ≡ InArea start → take (start + 16384 - start) (drop start area) ≡ viewOf m rom area page
-  view-area start q = let z : start + 16384 - start ≡ 16384 = omega arith in ap (λ (k : ℕ). take k (drop start area)) z ∙ sym (ap (λ (x : Part). bytesOf x rom area) q) ∙ viewed
+  view-area start q = let z : start + 16384 - start ≡ 16384 = omega arith in ap (λ (k : ℕ). take k (drop start area)) z ∙ sym (ap (λ (x : Part). partBytes x rom area) q) ∙ viewed
 
   pub view-rom : (start : ℕ) → p ≡ InRom start → take (start + 16384 - start) (drop start rom) ≡ viewOf m rom area page
-  view-rom start q = let z : start + 16384 - start ≡ 16384 = omega arith in ap (λ (k : ℕ). take k (drop start rom)) z ∙ sym (ap (λ (x : Part). bytesOf x rom area) q) ∙ viewed
+  view-rom start q = let z : start + 16384 - start ≡ 16384 = omega arith in ap (λ (k : ℕ). take k (drop start rom)) z ∙ sym (ap (λ (x : Part). partBytes x rom area) q) ∙ viewed

@@ -14,7 +14,7 @@ use Rattle.spectrum.specs.declared.Answer.{Answer}
 use Rattle.spectrum.specs.declared.Answer.the-variants.{Accepted, Refused}
 use Rattle.spectrum.specs.Pages.{owned, pageIn}
 use Rattle.spectrum.specs.Valid.{validOf}
-use Rattle.journal.specs.Model.{refuse}
+use Rattle.spectrum.specs.Numbers.{refuse}
 use Rattle.view.specs.declared.Part.{Part}
 use Rattle.view.specs.declared.Part.the-variants.{Nowhere, InArea, InRom}
 
@@ -45,10 +45,10 @@ partFor (Refused why) page = Nowhere
 partFor Accepted page = choose (ltb page 8) (InArea (page * 16384)) (InRom ((page - 8) * 16384))
 
 -- the 16,384 bytes of a part
-abbrev pub bytesOf : Part → List ℕ → List ℕ → List ℕ
-bytesOf Nowhere rom area = []
-bytesOf (InArea start) rom area = take 16384 (drop start area)
-bytesOf (InRom start) rom area = take 16384 (drop start rom)
+abbrev pub partBytes : Part → List ℕ → List ℕ → List ℕ
+partBytes Nowhere rom area = []
+partBytes (InArea start) rom area = take 16384 (drop start area)
+partBytes (InRom start) rom area = take 16384 (drop start rom)
 
 abbrev pub viewOf : Machine → List ℕ → List ℕ → ℕ → List ℕ
-viewOf m rom area page = bytesOf (partFor (viewAnswer m (length rom) (length area) page) page) rom area
+viewOf m rom area page = partBytes (partFor (viewAnswer m (length rom) (length area) page) page) rom area

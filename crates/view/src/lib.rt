@@ -19,7 +19,7 @@ pub enum Part {
 pub fn view<'a>(m: Machine, rom: &'a [u8], area: &'a [u8], page: u8) -> &'a [u8]
     ensures { λ r. ⌜ now r ≡ viewOf m (now (rom .entry)) (now (area .entry)) page ⌝ }
 {
-    let part = place(m, rom.len(), area.len(), page);
+    let part = locate(m, rom.len(), area.len(), page);
     match part {
         Part::Nowhere => return &area[0..0],
         Part::InArea(start) => {
@@ -54,7 +54,7 @@ pub fn answer(m: Machine, rom: usize, area: usize, page: u8) -> Answer
 }
 
 // Where a page lies in a ROM and an area of these lengths.
-pub fn place(m: Machine, rom: usize, area: usize, page: u8) -> Part
+pub fn locate(m: Machine, rom: usize, area: usize, page: u8) -> Part
     ensures { λ r. ⌜ r ≡ partFor (viewAnswer m rom area page) page ⌝ }
 {
     let said = answer(m, rom, area, page);
@@ -94,7 +94,7 @@ fn has_page(model: Model, page: u8) -> bool
 {
     let p = page as usize;
     if p < 8 {
-        return spectrum::owns(model, p);
+        return spectrum::pages::owns(model, p);
     }
     p < rom_pages(model)
 }

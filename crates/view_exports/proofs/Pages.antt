@@ -12,32 +12,32 @@ use Rattle.slices.specs.Choose.{choose}
 use Rattle.slices.specs.Put.{put}
 use Rattle.slices.proofs.Puts.{put-zero}
 use Rattle.spectrum.specs.Numbers.{numberOf}
-use Rattle.header.specs.declared.Taken.{Taken}
-use Rattle.header.specs.Heads.{takenOf}
+use Rattle.header_canonical.specs.declared.DecodedHeader.{DecodedHeader}
+use Rattle.header_canonical.specs.Canonical.{decodedOf}
 use Rattle.view.specs.declared.Part.{Part}
 use Rattle.view.specs.declared.Part.the-variants.{Nowhere, InArea, InRom}
-use Rattle.view.specs.View.{viewAnswer, partFor, bytesOf, viewOf}
-use Rattle.snapshot.specs.Journal.{Shown, shownAs, showTaken, showOf}
-use Rattle.view_exports.specs.Viewed.{viewTaken, viewedOf, pageInto}
+use Rattle.view.specs.View.{viewAnswer, partFor, partBytes, viewOf}
+use Rattle.view_bytes.specs.Views.{Shown, shownAs, showDecoded, showOf}
+use Rattle.view_exports.specs.Viewed.{viewDecoded, viewedOf, pageInto}
 
 -- the bytes that a view points at
 abbrev pointed : Shown → List ℕ → List ℕ → List ℕ
 pointed x rom area = take (x .size) (drop (x .start) (choose (eqb (x .rom) 1) rom area))
 
-part-bytes : (n : ℕ) (p : Part) (rom area : List ℕ) → bytesOf p rom area ≡ pointed (shownAs n p) rom area
+part-bytes : (n : ℕ) (p : Part) (rom area : List ℕ) → partBytes p rom area ≡ pointed (shownAs n p) rom area
 part-bytes n Nowhere rom area = refl
 part-bytes n (InArea start) rom area = refl
 part-bytes n (InRom start) rom area = refl
 
 pub shown-bytes : (head rom area : List ℕ) (page : ℕ) → viewedOf head rom area page ≡ pointed (showOf head (length rom) (length area) page) rom area
 unfolding viewedOf showOf
-shown-bytes head rom area page = go (takenOf head)
+shown-bytes head rom area page = go (decodedOf head)
   where
-    by : (c : Bool) (n : ℕ) (p : Part) → choose c (bytesOf p rom area) [] ≡ pointed (choose c (shownAs n p) (record { answer = 20; rom = 0; start = 0; size = 0 })) rom area
+    by : (c : Bool) (n : ℕ) (p : Part) → choose c (partBytes p rom area) [] ≡ pointed (choose c (shownAs n p) (record { answer = 20; rom = 0; start = 0; size = 0 })) rom area
     by true n p = part-bytes n p rom area
     by false n p = refl
 
-    go : (t : Taken) → viewTaken t rom area page ≡ pointed (showTaken t (length rom) (length area) page) rom area
+    go : (t : DecodedHeader) → viewDecoded t rom area page ≡ pointed (showDecoded t (length rom) (length area) page) rom area
     go t =
         let a = viewAnswer (t .machine) (length rom) (length area) page in
         by (t .canonical) (numberOf a) (partFor a page)
@@ -50,27 +50,27 @@ rest-zero n k h =
     ap (λ (i : ℕ). drop {A = ℕ} n (replicate i 0)) e ∙ sym (ap (drop {A = ℕ} n) (replicate-append-replicate n (k - n) 0))
     ∙ drop-at {A = ℕ} (replicate n 0) (replicate (k - n) 0) n (length-replicate {A = ℕ} n 0)
 
-module _ (head rom area : List ℕ) (k : ℕ) (zeros : List ℕ) (page : ℕ) (t : Taken) (et : t ≡ takenOf head) (ez : zeros ≡ replicate k 0) where
+module _ (head rom area : List ℕ) (k : ℕ) (zeros : List ℕ) (page : ℕ) (t : DecodedHeader) (et : t ≡ decodedOf head) (ez : zeros ≡ replicate k 0) where
   viewed : List ℕ
   viewed = viewedOf head rom area page
 
-  taken-view : t .canonical ≡ true → viewed ≡ viewOf (t .machine) rom area page
+  decoded-view : t .canonical ≡ true → viewed ≡ viewOf (t .machine) rom area page
   unfolding viewed viewedOf
-  taken-view c = ap (λ (x : Taken). viewTaken x rom area page) (sym et) ∙ rw c
+  decoded-view c = ap (λ (x : DecodedHeader). viewDecoded x rom area page) (sym et) ∙ rw c
 
   pub page-none : t .canonical ≡ false → (0 ≡ length (viewedOf head rom area page)) × (zeros ≡ pageInto (viewedOf head rom area page) k)
   unfolding viewedOf
   page-none c =
       let z : k - 0 ≡ k = omega arith in
       let none : pageInto [] k ≡ replicate k 0 = rw (le-leb 0 k (omega arith)) (ap (λ (i : ℕ). replicate {A = ℕ} i 0) z) in
-      let e : viewTaken (takenOf head) rom area page ≡ [] = ap (λ (x : Taken). viewTaken x rom area page) (sym et) ∙ rw c in (
+      let e : viewDecoded (decodedOf head) rom area page ≡ [] = ap (λ (x : DecodedHeader). viewDecoded x rom area page) (sym et) ∙ rw c in (
         sym (ap length e),
         ez ∙ sym (ap (λ (l : List ℕ). pageInto l k) e ∙ none),
       )
 
   module _ (part : List ℕ) (r : ℕ) (c : t .canonical ≡ true) (ep : part ≡ viewOf (t .machine) rom area page) (er : r ≡ length part) where
     is : part ≡ viewed
-    is = ep ∙ sym (taken-view c)
+    is = ep ∙ sym (decoded-view c)
 
     pub page-fits : (out : List ℕ) → length part ≤ length zeros → out ≡ put zeros 0 part
         → (r ≡ length (viewedOf head rom area page)) × (out ≡ pageInto (viewedOf head rom area page) k)

@@ -5,7 +5,7 @@ use mathlib.Core.List.{List}
 use lib.ListN.{length, take, drop}
 use lib.Dec.{eqb}
 use Rattle.slices.specs.Choose.{choose}
-use Rattle.snapshot.specs.Journal.{showOf}
+use Rattle.view_bytes.specs.Views.{showOf}
 use Rattle.view_exports.specs.Viewed.{viewedOf}
 
 pub record Theorems : Type 0 where

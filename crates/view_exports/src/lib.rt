@@ -15,9 +15,9 @@ pub extern "C" fn view_page<'a>(
     ensures { λ r. ⌜ (r ≡ length (viewedOf (now (head .entry)) (now (rom .entry)) (now (area .entry)) page)) × (now (out .exit) ≡ pageInto (viewedOf (now (head .entry)) (now (rom .entry)) (now (area .entry)) page) (length (now (out .entry)))) ⌝ }
 {
     slices::fill(out, 0);
-    let taken = header::take_header(head);
-    if taken.canonical {
-        let m = taken.machine;
+    let decoded = header_canonical::decode_header(head);
+    if decoded.canonical {
+        let m = decoded.machine;
         let part = view::view(m, rom, area, page);
         let n = part.len();
         if n <= out.len() {

@@ -1,33 +1,34 @@
 -- Reading the blocks that the writer lays down gives the area back. Of the packing crate only `unpacked-packed` is used.
 use Prim.Native.Nat.{ℕ, zero, suc, _+_, _-_, _*_, _/_, _%_, _<_, _≤_}
-use mathlib.Core.Path.{_≡_, refl, sym, ap, subst, _∙_}
+use mathlib.Core.Path.{_≡_, refl, sym, ap, _∙_}
 use mathlib.Core.Bool.{Bool, true, false}
 use mathlib.Core.List.{List, [], _∷_, _++_}
 use native.Mathlib.Omega.{arith}
 use borrow.Author.Tests.{le-ltb, ne-eqb, ltb-true, eqb-true, eqb-false}
 use lib.Dec.{eqb, ltb}
 use lib.ListN.{length, getD, set, take, drop, length-drop, length-take, length-append, length-set, getD-replicate}
-use lib.Seq.{getD-drop, getD-take, drop-drop, take-at, drop-at, getD-set-same, getD-set-other, ext-getD}
+use lib.Seq.{drop-drop, take-at, drop-at, getD-set-same, getD-set-other, ext-getD}
 use Rattle.slices.specs.Choose.{choose}
+use Rattle.slices.specs.Bytes.{wordAt}
 use Rattle.slices.specs.Put.{put}
 use Rattle.slices.specs.Blank.{blank}
-use Rattle.slices.proofs.Puts.{length-put, put-in}
-use Rattle.packing.specs.Packed.{bytes, packed}
-use Rattle.packing.specs.Packed.Promise.{unpacked-packed}
+use Rattle.packed.specs.Packed.{bytes}
+use Rattle.packed.specs.Packed.{packed}
+use Rattle.packed.specs.Packed.Promise.{unpacked-packed}
 use Rattle.spectrum.specs.declared.Model.{Model}
 use Rattle.spectrum.specs.declared.Model.the-variants.{K48, K128}
 use Rattle.spectrum.specs.declared.Refusal.the-variants.{BlockMissing}
-use Rattle.spectrum.specs.Pages.{ownership, owned, pageIn}
+use Rattle.spectrum.specs.Pages.{slots, pageAmong, owned, pageIn}
 use Rattle.blocks.specs.declared.Page.the-variants.{At}
-use Rattle.blocks.specs.Blocks.{pageOf, allThere, Block, brought, wordOf, sizeOf, contents, onPage, blockOf, Reading, whole, refusal, andThen, finished, blocks, noneSeen, blocksInto}
+use Rattle.blocks.specs.Blocks.{pageOf, allThere, Block, brought, sizeOf, contents, onPage, blockOf, readAs, unread, afterBlock, finished, blocks, noneSeen, blocksInto}
 use Rattle.blocks.proofs.Turns.{turn, ended}
-use Rattle.z80write.specs.declared.Slot.{Slot}
-use Rattle.z80write.specs.Written.{blockFor, slots, laid}
+use Rattle.spectrum.specs.declared.Slot.{Slot}
+use Rattle.z80write.specs.Written.{blockFor, laid}
 use Rattle.z80file.specs.Clean.{Clean}
-use Rattle.z80file.proofs.Places.{put-elsewhere, blank-at, blank-long}
+use Rattle.z80file.proofs.Places.{page-at, put-long, put-here, put-elsewhere, blank-at, blank-long}
 
--- the block at the front of a list that holds it whole
-front : (model : Model) (seen : List Bool) (s : List ℕ) (n size : ℕ) → wordOf s ≡ n → size ≡ sizeOf n → 3 + size ≤ length s
+-- the block at the front of a list that holds it readAs
+front : (model : Model) (seen : List Bool) (s : List ℕ) (n size : ℕ) → wordAt s 0 ≡ n → size ≡ sizeOf n → 3 + size ≤ length s
     → blockOf model seen s ≡ onPage (pageOf model (getD s 2 0)) seen (contents (eqb n 65535) (take size (drop 3 s))) (drop (3 + size) s)
 unfolding blockOf
 front model seen s n size en es g =
@@ -69,24 +70,15 @@ agree-more a t seen page la lt ls h g i hi = go (eqb (i / 16384) page) refl
     lp : length (pageIn t page) ≡ 16384
     lp = page-long t page lt h
 
-    fits : page * 16384 + length (pageIn t page) ≤ length a
-    fits = omega (arith, lp)
-
     go : (b : Bool) → eqb (i / 16384) page ≡ b
         → getD (put a (page * 16384) (pageIn t page)) i 0 ≡ getD (choose (getD (set seen page true) (i / 16384) false) t (blank 131072)) i 0
     go true e =
         let q : i / 16384 ≡ page = eqb-true _ _ e in
-        let j : page * 16384 + i % 16384 ≡ i = omega arith in
-        let w : getD (set seen page true) page false ≡ true = getD-set-same seen page true false (omega arith) in
-        ap (λ (n : ℕ). getD (put a (page * 16384) (pageIn t page)) n 0) (sym j)
-        ∙ put-in a (pageIn t page) (page * 16384) fits (i % 16384) (omega (arith, lp))
-        ∙ getD-take 16384 (drop (page * 16384) t) (i % 16384) 0 (omega arith)
-        ∙ getD-drop (page * 16384) t (i % 16384) 0
-        ∙ ap (λ (n : ℕ). getD t n 0) j
-        ∙ rw (q, w)
+        let w : getD (set seen page true) page false ≡ true = getD-set-same seen page true false (rw ls h) in
+        put-here a (pageIn t page) page la lp h i q ∙ page-at t page i q ∙ rw (q, w)
     go false e =
         let q : i / 16384 ≡ page → ⊥ = eqb-false _ _ e in
-        put-elsewhere a (pageIn t page) page i lp (omega arith) q ∙ g i hi ∙ rw (getD-set-other seen page (i / 16384) true false q)
+        put-elsewhere a (pageIn t page) page la lp h i q ∙ g i hi ∙ rw (getD-set-other seen page (i / 16384) true false q)
 
 -- the pages seen after a list of blocks, and that each is of this mode and new
 abbrev marked : List Bool → List Slot → List Bool
@@ -111,35 +103,39 @@ block-long number p = go (ltb (length (packed p)) 16384)
     go true = omega arith
     go false = omega arith
 
+longer : (number : ℕ) (p rest : List ℕ) → length rest < length (blockFor number p ++ rest)
+longer number p rest = omega (arith, length-append (blockFor number p) rest, block-long number p)
+
+-- a block before blocks that read
+one-more : (model : Model) (turns number page : ℕ) (seen seen′ : List Bool) (a p rest t : List ℕ)
+    → pageOf model number ≡ At page → getD seen page false ≡ false → length p ≡ 16384
+    → Reads model turns (set seen page true) (put a (page * 16384) p) rest seen′ t → Reads model (suc turns) seen a (blockFor number p ++ rest) seen′ t
+one-more model turns number page seen seen′ a p rest t f u l r =
+    record {
+      last = r .last;
+      reading =
+          turn model turns seen a (blockFor number p ++ rest) (omega (arith, longer number p rest))
+          ∙ ap (λ (y : Block). afterBlock y (λ page xs rest. blocks model turns (set seen page true) (put a (page * 16384) xs) rest))
+          (one-block model seen number page p rest f u l)
+          ∙ r .reading;
+      long = r .long;
+      agree = r .agree;
+    }
+
 -- by induction over the blocks that are left
 reads : (model : Model) (t : List ℕ) → length t ≡ 131072 → (more : List Slot) (turns : ℕ) (seen : List Bool) (a : List ℕ)
     → length (laid more t) ≤ turns → Fresh model seen more → length seen ≡ 8 → length a ≡ 131072 → Agree a seen t
     → Reads model turns seen a (laid more t) (marked seen more) t
 unfolding laid
 reads model t lt [] turns seen a h f ls la g = record { last = a; reading = ended model turns seen a [] refl; long = la; agree = g }
-reads model t lt (x ∷ more) zero seen a h f ls la g =
-    absurd (omega (arith, length-append (blockFor (x .number) (pageIn t (x .page))) (laid more t), block-long (x .number) (pageIn t (x .page))))
+reads model t lt (x ∷ more) zero seen a h f ls la g = absurd (omega (arith, longer (x .number) (pageIn t (x .page)) (laid more t)))
 reads model t lt (x ∷ more) (suc turns) seen a h f ls la g =
     let p = pageIn t (x .page) in
-    let b = blockFor (x .number) p in
-    let la2 = length-append b (laid more t) in
-    let lp : length p ≡ 16384 = page-long t (x .page) lt (f .1 .1 .0) in
-    let fits : x .page * 16384 + length p ≤ length a = omega (arith, lp, f .1 .1 .0) in
-    let r =
-    reads model t lt more turns (set seen (x .page) true) (put a (x .page * 16384) p)
-    (omega (arith, la2, block-long (x .number) p)) (f .1 .1 .1) (length-set seen (x .page) true ∙ ls)
-    (length-put a p (x .page * 16384) fits ∙ la)
-    (agree-more a t seen (x .page) la lt ls (f .1 .1 .0) g) in
-    record {
-      last = r .last;
-      reading =
-          turn model turns seen a (b ++ laid more t) (omega (arith, la2, block-long (x .number) p))
-          ∙ ap (λ (y : Block). andThen y (λ page xs rest. blocks model turns (set seen page true) (put a (page * 16384) xs) rest))
-          (one-block model seen (x .number) (x .page) p (laid more t) (f .0) (f .1 .0) lp)
-          ∙ r .reading;
-      long = r .long;
-      agree = r .agree;
-    }
+    let k = f .1 .1 .0 in
+    let lp = page-long t (x .page) lt k in
+    one-more model turns (x .number) (x .page) seen _ a p (laid more t) t (f .0) (f .1 .0) lp
+    (reads model t lt more turns (set seen (x .page) true) _ (omega (arith, longer (x .number) p (laid more t))) (f .1 .1 .1)
+    (length-set seen (x .page) true ∙ ls) (put-long a p (x .page) la lp k) (agree-more a t seen (x .page) la lt ls k g))
 
 fresh : (model : Model) → Fresh model noneSeen (slots model)
 unfolding pageOf
@@ -182,11 +178,34 @@ fresh K128 = (
   ),
 )
 
-all-owned : (model : Model) → marked noneSeen (slots model) ≡ ownership model
-all-owned K48 = refl
-all-owned K128 = refl
+-- the pages seen after a table's blocks are its pages
+seen-among : (more : List Slot) (seen : List Bool) (page : ℕ) → page < length seen
+    → getD (marked seen more) page false ≡ choose (pageAmong more page) true (getD seen page false)
+seen-among [] seen page h = refl
+seen-among (x ∷ more) seen page h =
+    seen-among more (set seen (x .page) true) page (omega (arith, length-set seen (x .page) true)) ∙ go (eqb (x .page) page) (pageAmong more page) refl
+  where
+    go : (b c : Bool) → eqb (x .page) page ≡ b
+        → choose c true (getD (set seen (x .page) true) page false) ≡ choose (choose b true c) true (getD seen page false)
+    go true true e = refl
+    go true false e =
+        let q : x .page ≡ page = eqb-true _ _ e in
+        rw q (getD-set-same seen page true false h)
+    go false true e = refl
+    go false false e = getD-set-other seen (x .page) page true false (λ q. eqb-false _ _ e (sym q))
 
-there : (model : Model) → allThere model (ownership model) ≡ true
+abbrev allSlots : Model → List Bool
+allSlots model = marked noneSeen (slots model)
+
+seen-owned : (model : Model) (page : ℕ) → page < 8 → getD (allSlots model) page false ≡ owned model page
+seen-owned model page h =
+    seen-among (slots model) noneSeen page h ∙ rw (getD-replicate 8 page false false h) (go (owned model page))
+  where
+    go : (b : Bool) → choose b true false ≡ b
+    go true = refl
+    go false = refl
+
+there : (model : Model) → allThere model (allSlots model) ≡ true
 unfolding allThere
 there K48 = refl
 there K128 = refl
@@ -194,20 +213,19 @@ there K128 = refl
 none-seen : (t : List ℕ) → Agree (blank 131072) noneSeen t
 none-seen t i h = rw (getD-replicate 8 (i / 16384) false false (omega arith))
 
-same-area : (model : Model) (t last : List ℕ) → Clean model t → length last ≡ 131072 → Agree last (ownership model) t → last ≡ t
+same-area : (model : Model) (t last : List ℕ) → Clean model t → length last ≡ 131072 → Agree last (allSlots model) t → last ≡ t
 same-area model t last s l g = ext-getD 0 last t (l ∙ sym (s .long)) (λ i h. go i (omega arith) (owned model (i / 16384)) refl)
   where
     go : (i : ℕ) → i < 131072 → (b : Bool) → owned model (i / 16384) ≡ b → getD last i 0 ≡ getD t i 0
-    go i h true e = g i h ∙ rw e
-    go i h false e = g i h ∙ rw e (blank-at 131072 i h ∙ sym (s .clear i h e))
+    go i h true e = g i h ∙ rw (seen-owned model (i / 16384) (omega arith), e)
+    go i h false e = g i h ∙ rw (seen-owned model (i / 16384) (omega arith), e) (blank-at 131072 i h ∙ sym (s .clear i h e))
 
 -- the round trip of the blocks
-pub blocks-back : (model : Model) (area : List ℕ) → Clean model area → blocksInto model (blank 131072) (laid (slots model) area) ≡ whole area
+pub blocks-back : (model : Model) (area : List ℕ) → Clean model area → blocksInto model (blank 131072) (laid (slots model) area) ≡ readAs area
 unfolding blocksInto
 blocks-back model area s =
     let r = reads model area (s .long) (slots model) (length (laid (slots model) area)) noneSeen (blank 131072) (omega arith) (fresh model) refl (blank-long 131072) (none-seen area) in
-    let o = all-owned model in
-    let e : r .last ≡ area = same-area model area (r .last) s (r .long) (subst (λ (x : List Bool). Agree (r .last) x area) o (r .agree)) in
-    r .reading ∙ ap (λ (x : List Bool). finished model x (r .last)) o
-    ∙ ap (λ (b : Bool). choose b (whole (r .last)) (refusal BlockMissing)) (there model)
-    ∙ ap whole e
+    let e : r .last ≡ area = same-area model area (r .last) s (r .long) (r .agree) in
+    r .reading
+    ∙ ap (λ (b : Bool). choose b (readAs (r .last)) (unread BlockMissing)) (there model)
+    ∙ ap readAs e

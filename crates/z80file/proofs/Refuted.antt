@@ -11,18 +11,19 @@ use Rattle.spectrum.specs.declared.Machine.{Machine}
 use Rattle.spectrum.specs.declared.Refusal.the-variants.{FileShort, BlockMissing}
 use Rattle.spectrum.specs.declared.Answer.the-variants.{Refused}
 use Rattle.spectrum.specs.Machine.{withOut}
+use Rattle.spectrum.specs.Pages.{slots}
 use Rattle.spectrum.specs.Valid.{Typed, validOf}
 use Rattle.spectrum.proofs.Validity.{valid-says}
 use Rattle.spectrum.proofs.Numbers.{refused-not}
 use Rattle.header.specs.declared.Version.the-variants.{V3}
 use Rattle.header.specs.declared.Head.{Head}
-use Rattle.header.specs.Reading.{machineOf}
-use Rattle.header.specs.Writing.{headerOf}
-use Rattle.header.proofs.WriteSteps.{header-length}
-use Rattle.header.proofs.Opened.{head-back}
-use Rattle.blocks.specs.Blocks.{Reading, refusal, allThere, blocks, blocksInto}
-use Rattle.z80read.specs.Read as R
-use Rattle.z80write.specs.Written as W
+use Rattle.header_read.specs.Reading.{machineOf}
+use Rattle.header_write.specs.Writing.{headerOf}
+use Rattle.header_write.proofs.WriteSteps.{header-length}
+use Rattle.header_canonical.proofs.HeadBack.{head-back}
+use Rattle.blocks.specs.Blocks.{Reading, unread, allThere, blocks, blocksInto}
+use Rattle.z80read.specs.Read.{ReadResult, readResult, afterHead, readOf}
+use Rattle.z80write.specs.Written.{laid, fileOf, WriteResult, writtenOf}
 use Rattle.z80write.proofs.Whole.{room}
 use Rattle.z80write.proofs.Longest.{file-most}
 use Rattle.z80file.specs.Clean.{Clean}
@@ -39,9 +40,9 @@ unfolding area
 clean = clean-blank (sample .model)
 
 -- what was written is refused, where it is to be accepted
-pub refuted-refuses-files : BackOf refusesFiles W.writtenOf → ⊥
+pub refuted-refuses-files : BackOf refusesFiles writtenOf → ⊥
 unfolding refusesFiles
-refuted-refuses-files h = refused-not FileShort (ap (λ (o : R.Outcome). o .answer) (h sample area sample-typed sample-valid clean))
+refuted-refuses-files h = refused-not FileShort (ap (λ (o : ReadResult). o .answer) (h sample area sample-typed sample-valid clean))
 
 -- the sample with another last OUT
 changed : Machine
@@ -56,40 +57,40 @@ unfolding changed withOut sample validOf
 changed-valid = refl
 
 -- one machine is read for both, where their last OUTs are 0 and 1
-pub refuted-fixed-machine : (fixed : Machine) → BackOf (fixedMachine fixed) W.writtenOf → ⊥
+pub refuted-fixed-machine : (fixed : Machine) → BackOf (fixedMachine fixed) writtenOf → ⊥
 unfolding fixedMachine area changed withOut sample
 refuted-fixed-machine fixed h =
-    let one : fixed .out7ffd ≡ 0 = ap (λ (o : R.Outcome). o .machine .out7ffd) (h sample area sample-typed sample-valid clean) in
-    let two : fixed .out7ffd ≡ 1 = ap (λ (o : R.Outcome). o .machine .out7ffd) (h changed area changed-typed changed-valid (clean-blank (changed .model))) in
+    let one : fixed .out7ffd ≡ 0 = ap (λ (o : ReadResult). o .machine .out7ffd) (h sample area sample-typed sample-valid clean) in
+    let two : fixed .out7ffd ≡ 1 = ap (λ (o : ReadResult). o .machine .out7ffd) (h changed area changed-typed changed-valid (clean-blank (changed .model))) in
     omega arith
 
 -- of no blocks all eight are missing
-no-blocks : blocksInto (sample .model) (blank 131072) [] ≡ refusal BlockMissing
+no-blocks : blocksInto (sample .model) (blank 131072) [] ≡ unread BlockMissing
 unfolding sample blocksInto blocks allThere
 no-blocks = refl
 
 -- a header alone is refused
-header-alone : R.readOf (headerOf sample ++ []) 131072 .answer ≡ Refused BlockMissing
-unfolding R.readOf
+header-alone : readOf (headerOf sample ++ []) 131072 .answer ≡ Refused BlockMissing
+unfolding readOf
 header-alone =
-    ap (λ (x : Head). R.afterHead x (headerOf sample ++ []) 131072 .answer) (head-back sample [] sample-typed (valid-says sample (sample-typed .sound) sample-valid))
-    ∙ ap (λ (x : List ℕ). R.outcomeOf (blocksInto (sample .model) (blank 131072) x) (machineOf V3 (sample .model) (sample .attachment) (headerOf sample ++ [])) 131072 .answer)
+    ap (λ (x : Head). afterHead x (headerOf sample ++ []) 131072 .answer) (head-back sample [] sample-typed (valid-says sample (sample-typed .sound) sample-valid))
+    ∙ ap (λ (x : List ℕ). readResult (blocksInto (sample .model) (blank 131072) x) (machineOf V3 (sample .model) (sample .attachment) (headerOf sample ++ [])) 131072 .answer)
     (drop-at (headerOf sample) [] 86 (header-length sample sample-typed))
-    ∙ ap (λ (x : Reading). R.outcomeOf x (machineOf V3 (sample .model) (sample .attachment) (headerOf sample ++ [])) 131072 .answer) no-blocks
+    ∙ ap (λ (x : Reading). readResult x (machineOf V3 (sample .model) (sample .attachment) (headerOf sample ++ [])) 131072 .answer) no-blocks
 
 -- the first 86 bytes of what is written are the header
-front : take 86 (W.writtenOf sample area 131182 .out) ≡ headerOf sample ++ []
+front : take 86 (writtenOf sample area 131182 .out) ≡ headerOf sample ++ []
 front =
-    let tail = W.laid (W.slots (sample .model)) area in
-    let zs : List ℕ = replicate (131182 - length (W.fileOf sample area)) 0 in
-    ap (λ (o : W.Outcome). take 86 (o .out)) (room sample area 131182 sample-valid (clean .long) (file-most sample area sample-typed))
+    let tail = laid (slots (sample .model)) area in
+    let zs : List ℕ = replicate (131182 - length (fileOf sample area)) 0 in
+    ap (λ (o : WriteResult). take 86 (o .out)) (room sample area 131182 sample-valid (clean .long) (file-most sample area sample-typed))
     ∙ ap (take 86) (append-assoc (headerOf sample) tail zs)
     ∙ take-at (headerOf sample) (tail ++ zs) 86 (header-length sample sample-typed)
     ∙ sym (append-nil (headerOf sample))
 
 -- what is read are the 86 header bytes alone, which are refused for want of blocks, where they are to be accepted
-pub refuted-invented-length : BackOf R.readOf inventsLength → ⊥
+pub refuted-invented-length : BackOf readOf inventsLength → ⊥
 unfolding inventsLength
 refuted-invented-length h =
     refused-not BlockMissing
-    (sym header-alone ∙ ap (λ (l : List ℕ). R.readOf l 131072 .answer) (sym front) ∙ ap (λ (o : R.Outcome). o .answer) (h sample area sample-typed sample-valid clean))
+    (sym header-alone ∙ ap (λ (l : List ℕ). readOf l 131072 .answer) (sym front) ∙ ap (λ (o : ReadResult). o .answer) (h sample area sample-typed sample-valid clean))

@@ -1,4 +1,4 @@
--- What is claimed of .Z80 files beyond the functions' contracts.
+-- What is claimed of .Z80 files beyond the contracts of `read` and `write`.
 use Prim.Native.Nat.{ℕ, _<_}
 use mathlib.Core.Path.{_≡_}
 use mathlib.Core.Bool.{true}
@@ -15,12 +15,12 @@ use Rattle.z80write.specs.Written.{fileOf, writtenOf}
 use Rattle.z80file.specs.Clean.{Clean, ReadGives}
 use Rattle.z80file.specs.RoundTrip.{BackOf, FilesOf}
 use Rattle.z80file.specs.Wrong.{refusesFiles, fixedMachine, inventsLength}
-use Rattle.z80file.specs.Cases.{table, computed, expected}
+use Rattle.z80file.specs.Cases.{caseTable, caseComputed, caseExpected}
 
 pub record Theorems : Type 0 where
   -- demand 2: reading and writing as they are defined, which `read` and `write` equal
   pub files : FilesOf readOf writtenOf
-  -- "For a valid machine whose unused pages are zero, reading that file gives the machine and memory back."
+  -- its last sentence of the file by itself, whatever output it stands in
   pub file-back : (m : Machine) (area : List ℕ) → Typed m → validOf m ≡ true → Clean (m .model) area
       → readOf (fileOf m area) 131072 ≡ record { answer = Accepted; machine = m; memory = area }
   -- "An accepted read gives a valid machine", and "sets pages that the machine does not own to zero": with `read-typed`, a start
@@ -28,7 +28,7 @@ pub record Theorems : Type 0 where
   -- the page of a block number is one that the machine owns
   pub owned-page : (model : Model) (n p : ℕ) → pageOf model n ≡ At p → (owned model p ≡ true) × (p < 8)
   -- P1 to P12, "proved together as a single table under a single statement"
-  pub cases : map computed table ≡ map expected table
+  pub cases : map caseComputed caseTable ≡ map caseExpected caseTable
   -- the empty versions of demand 2 do not meet its last sentence: a reader that refuses everything, one that gives a fixed machine, whichever
   -- it is, and a writer with an invented length
   pub refuted-refuses-files : BackOf refusesFiles writtenOf → ⊥

@@ -3,17 +3,17 @@ use Prim.Native.Nat.{ℕ}
 use mathlib.Core.List.{List}
 use Rattle.spectrum.specs.declared.Machine.{Machine}
 use Rattle.spectrum.specs.declared.Refusal.the-variants.{FileShort}
-use Rattle.z80read.specs.Read as R
-use Rattle.z80write.specs.Written as W
+use Rattle.z80read.specs.Read.{ReadResult, refusedRead, readOf}
+use Rattle.z80write.specs.Written.{WriteResult, writtenOf}
 
 -- "a reader that refuses everything"
-unfoldable pub refusesFiles : List ℕ → ℕ → R.Outcome
-refusesFiles s n = R.refusedRead FileShort n
+unfoldable pub refusesFiles : List ℕ → ℕ → ReadResult
+refusesFiles s n = refusedRead FileShort n
 
 -- ".. or gives one fixed machine": right in all but the machine
-unfoldable pub fixedMachine : Machine → List ℕ → ℕ → R.Outcome
-fixedMachine fixed s n = record { answer = R.readOf s n .answer; machine = fixed; memory = R.readOf s n .memory }
+unfoldable pub fixedMachine : Machine → List ℕ → ℕ → ReadResult
+fixedMachine fixed s n = record { answer = readOf s n .answer; machine = fixed; memory = readOf s n .memory }
 
 -- "a writer with an invented length": right in all but the length
-unfoldable pub inventsLength : Machine → List ℕ → ℕ → W.Outcome
-inventsLength m area n = record { answer = W.writtenOf m area n .answer; size = 86; out = W.writtenOf m area n .out }
+unfoldable pub inventsLength : Machine → List ℕ → ℕ → WriteResult
+inventsLength m area n = record { answer = writtenOf m area n .answer; size = 86; out = writtenOf m area n .out }

@@ -14,26 +14,26 @@ use Rattle.spectrum.specs.Valid.{Typed}
 use Rattle.spectrum.proofs.Numbers.{refused-not}
 use Rattle.header.specs.declared.Head.{Head}
 use Rattle.header.specs.declared.Head.the-variants.{Header}
-use Rattle.header.specs.Reading.{machineOf}
+use Rattle.header_read.specs.Reading.{machineOf}
 use Rattle.header.specs.Heads.{headOf}
 use Rattle.header.proofs.Opened.{opens}
-use Rattle.header.proofs.Typed.{machine-typed}
-use Rattle.blocks.specs.Blocks.{Reading, refusal, whole}
-use Rattle.z80read.specs.Read.{Outcome, memoryInto, refusedRead, outcomeOf, afterHead, readOf}
+use Rattle.header_read.proofs.Typed.{machine-typed}
+use Rattle.blocks.specs.Blocks.{Reading, unread, readAs}
+use Rattle.z80read.specs.Read.{ReadResult, memoryInto, refusedRead, readResult, afterHead, readOf}
 
-outcome-typed : (x : Reading) (m : Machine) (n : ℕ) → Typed m → outcomeOf x m n .answer ≡ Accepted → Typed (outcomeOf x m n .machine)
-outcome-typed (refusal w) m n t e = absurd (refused-not w e)
-outcome-typed (whole area) m n t e = t
+result-typed : (x : Reading) (m : Machine) (n : ℕ) → Typed m → readResult x m n .answer ≡ Accepted → Typed (readResult x m n .machine)
+result-typed (unread w) m n t e = absurd (refused-not w e)
+result-typed (readAs area) m n t e = t
 
 pub read-typed : (s : List ℕ) (n : ℕ) → ((i : ℕ) → getD s i 0 < 256) → readOf s n .answer ≡ Accepted → Typed (readOf s n .machine)
 unfolding readOf
 read-typed s n h = go (eqb n 131072) (headOf s) refl
   where
-    o : Bool → Head → Outcome
+    o : Bool → Head → ReadResult
     o t x = choose t (afterHead x s n) (refusedRead AreaLength n)
 
     go : (t : Bool) (x : Head) → headOf s ≡ x → o t x .answer ≡ Accepted → Typed (o t x .machine)
     go true (Head.Refused w) q e = absurd (refused-not w e)
     go true (Header v k a) q e =
-        outcome-typed (memoryInto v k (blank 131072) s) (machineOf v k a s) n (machine-typed s h v k a (opens s (headOf s) v k a refl q .readable)) e
+        result-typed (memoryInto v k (blank 131072) s) (machineOf v k a s) n (machine-typed s h v k a (opens s (headOf s) v k a refl q .readable)) e
     go false x q e = absurd (refused-not AreaLength e)

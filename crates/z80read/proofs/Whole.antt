@@ -16,65 +16,69 @@ use Rattle.spectrum.specs.declared.Refusal.{Refusal}
 use Rattle.spectrum.specs.declared.Refusal.the-variants.{AreaLength}
 use Rattle.spectrum.specs.declared.Answer.{Answer}
 use Rattle.spectrum.specs.declared.Answer.the-variants.{Accepted, Refused}
+use Rattle.spectrum.specs.Machine.{blankMachine}
 use Rattle.spectrum.specs.Valid.{validOf}
 use Rattle.header.specs.declared.Version.{Version}
 use Rattle.header.specs.declared.Version.the-variants.{V1, V2, V3}
 use Rattle.header.specs.declared.Head.{Head}
 use Rattle.header.specs.declared.Head.the-variants.{Header}
-use Rattle.header.specs.Bytes.{byte12Of}
-use Rattle.header.specs.Reading.{headerLength, machineOf}
-use Rattle.header.specs.Heads.{headOf}
+use Rattle.header.specs.Heads.{byte12Of, headerLength, headOf}
+use Rattle.header_read.specs.Reading.{machineOf}
 use Rattle.header.specs.Inner.{Readable}
 use Rattle.header.proofs.HeadSteps.{long-30}
-use Rattle.header.proofs.Opened.{opens, machine-valid}
-use Rattle.blocks.specs.Blocks.{Reading, refusal, whole, blocksInto}
-use Rattle.blocks.specs.Body.{bodyInto}
-use Rattle.blocks.specs.Inner.{Tells}
+use Rattle.header.proofs.Opened.{opens}
+use Rattle.header_read.proofs.Valid.{machine-valid}
+use Rattle.blocks.specs.Blocks.{Reading, unread, readAs, ReadsBody, blocksInto}
+use Rattle.body_v1.specs.Body.{bodyInto}
 use Rattle.z80read.specs.declared.Opened.{Opened}
-use Rattle.z80read.specs.Read.{memoryInto, Outcome, refusedRead, refusedOpened, outcomeOf, afterHead, readOf, Leaves, Reads}
+use Rattle.z80read.specs.Read.{memoryInto, ReadResult, refusedRead, readResult, afterHead, readOf, ReadLeaves, Reads}
+
+-- what a refused read gives beside the area
+abbrev refusedOpened : Refusal → Opened
+refusedOpened why = record { answer = Refused why; machine = blankMachine }
 
 never : (w : Refusal) → Refused w ≡ Accepted → ⊥
 never w p = let z : _≡_ {A = ℕ} 0 1 = cc in omega arith
 
 -- what follows the header, by version
 module _ (v : Version) (model : Model) (area s : List ℕ) (r : Answer) (after : List ℕ) where
-  pub memory-1 : (b : ℕ) → b ≡ byte12Of s → v ≡ V1 → Tells (bodyInto (eqb (b / 32 % 2) 1) area (drop 30 s)) r after → Tells (memoryInto v model area s) r after
+  pub memory-1 : (b : ℕ) → b ≡ byte12Of s → v ≡ V1 → ReadsBody (bodyInto (eqb (b / 32 % 2) 1) area (drop 30 s)) r after → ReadsBody (memoryInto v model area s) r after
   memory-1 b e q t = rw (q, ← e) t
 
-  pub memory-2 : v ≡ V2 → Tells (blocksInto model area (drop 55 s)) r after → Tells (memoryInto v model area s) r after
+  pub memory-2 : v ≡ V2 → ReadsBody (blocksInto model area (drop 55 s)) r after → ReadsBody (memoryInto v model area s) r after
   memory-2 q t = rw q t
 
-  pub memory-3 : v ≡ V3 → Tells (blocksInto model area (drop 86 s)) r after → Tells (memoryInto v model area s) r after
+  pub memory-3 : v ≡ V3 → ReadsBody (blocksInto model area (drop 86 s)) r after → ReadsBody (memoryInto v model area s) r after
   memory-3 q t = rw q t
 
 pub at-12 : (v : Version) (n : ℕ) → headerLength v ≤ n → 12 < n
 at-12 v n h = let k = long-30 v n h in omega arith
 
 -- the answer of what follows the header decides
-module _ (x : Reading) (m : Machine) (n : ℕ) (answer : Answer) (after : List ℕ) (t : Tells x answer after) where
-  pub on-refused : (why : Refusal) (r : Opened) (clear : List ℕ) → answer ≡ Refused why → r ≡ refusedOpened why → length after ≡ n → clear ≡ replicate (length after) 0
-      → Leaves (outcomeOf x m n) r clear
-  on-refused why r clear e q l c = go x t
+module _ (x : Reading) (m : Machine) (n : ℕ) (answer : Answer) (after : List ℕ) (t : ReadsBody x answer after) where
+  pub on-refused : (why : Refusal) (r : Opened) → answer ≡ Refused why → r ≡ refusedOpened why → n ≡ 131072 → ReadLeaves (readResult x m n) r after
+  unfolding blank
+  on-refused why r e q l = go x t
     where
-      go : (x : Reading) → Tells x answer after → Leaves (outcomeOf x m n) r clear
-      go (refusal w) t =
-          let z : Refused w ≡ Refused why = sym t ∙ e in
+      go : (x : Reading) → ReadsBody x answer after → ReadLeaves (readResult x m n) r after
+      go (unread w) t =
+          let z : Refused w ≡ Refused why = sym (t .0) ∙ e in
           record {
             answer = ap (λ (o : Opened). o .answer) q ∙ sym z;
             machine = ap (λ (o : Opened). o .machine) q;
-            memory = c ∙ ap (λ (k : ℕ). replicate k 0) l;
+            memory = t .1 ∙ sym (ap (λ (k : ℕ). replicate k 0) l);
           }
-      go (whole a) t = absurd (never why (sym e ∙ t .0))
+      go (readAs a) t = absurd (never why (sym e ∙ t .0))
 
-  pub on-accepted : (machine : Machine) (r : Opened) → answer ≡ Accepted → machine ≡ m → r .answer ≡ Accepted → r .machine ≡ machine → Leaves (outcomeOf x m n) r after
+  pub on-accepted : (machine : Machine) (r : Opened) → answer ≡ Accepted → machine ≡ m → r .answer ≡ Accepted → r .machine ≡ machine → ReadLeaves (readResult x m n) r after
   on-accepted machine r e q a b = go x t
     where
-      go : (x : Reading) → Tells x answer after → Leaves (outcomeOf x m n) r after
-      go (refusal w) t = absurd (never w (sym t ∙ e))
-      go (whole area) t = record { answer = a; machine = b ∙ q; memory = t .1 }
+      go : (x : Reading) → ReadsBody x answer after → ReadLeaves (readResult x m n) r after
+      go (unread w) t = absurd (never w (sym (t .0) ∙ e))
+      go (readAs area) t = record { answer = a; machine = b ∙ q; memory = t .1 }
 
 -- a refusal is not accepted, so nothing is said of its machine
-no-machine : (o : Outcome) (why : Refusal) (r : Opened) (area : List ℕ) → Leaves o r area → r .answer ≡ Refused why → Reads o r area
+no-machine : (o : ReadResult) (why : Refusal) (r : Opened) (area : List ℕ) → ReadLeaves o r area → r .answer ≡ Refused why → Reads o r area
 no-machine o why r area l e = record { leaves = l; valid = λ a. absurd (never why (sym e ∙ a)) }
 
 module _ (s before clear : List ℕ) (c₀ : clear ≡ take 0 before ++ replicate (length before - 0) 0) where
@@ -84,13 +88,13 @@ module _ (s before clear : List ℕ) (c₀ : clear ≡ take 0 before ++ replicat
   long : length clear ≡ length before
   long = ap length c ∙ length-replicate (length before) 0
 
-  refused : (o : Outcome) (why : Refusal) (r : Opened) → r ≡ refusedOpened why → o ≡ refusedRead why (length before) → Reads o r clear
+  refused : (o : ReadResult) (why : Refusal) (r : Opened) → r ≡ refusedOpened why → o ≡ refusedRead why (length before) → Reads o r clear
   refused o why r q e =
       no-machine o why r clear
       (record {
-        answer = ap (λ (x : Opened). x .answer) q ∙ sym (ap (λ (x : Outcome). x .answer) e);
-        machine = ap (λ (x : Opened). x .machine) q ∙ sym (ap (λ (x : Outcome). x .machine) e);
-        memory = c ∙ sym (ap (λ (x : Outcome). x .memory) e);
+        answer = ap (λ (x : Opened). x .answer) q ∙ sym (ap (λ (x : ReadResult). x .answer) e);
+        machine = ap (λ (x : Opened). x .machine) q ∙ sym (ap (λ (x : ReadResult). x .machine) e);
+        memory = c ∙ sym (ap (λ (x : ReadResult). x .memory) e);
       })
       (ap (λ (x : Opened). x .answer) q)
 
@@ -115,18 +119,18 @@ module _ (s before clear : List ℕ) (c₀ : clear ≡ take 0 before ++ replicat
       read-readable = opens s head v model a eh e .readable
 
       pub read-on : (r : Opened) (area : List ℕ)
-          → Leaves (outcomeOf (memoryInto v model clear s) (machineOf v model a s) (length clear)) r area → Reads (readOf s (length before)) r area
+          → ReadLeaves (readResult (memoryInto v model clear s) (machineOf v model a s) (length clear)) r area → Reads (readOf s (length before)) r area
       read-on r area l =
           let x = memoryInto v model (blank 131072) s in
-          let p : outcomeOf (memoryInto v model clear s) (machineOf v model a s) (length clear) ≡ outcomeOf x (machineOf v model a s) (length before) =
-          ap (λ (z : List ℕ). outcomeOf (memoryInto v model z s) (machineOf v model a s) (length clear)) is-blank
-          ∙ ap (outcomeOf x (machineOf v model a s)) long in
-          let q : outcomeOf x (machineOf v model a s) (length before) ≡ readOf s (length before) = sym (ap (λ (z : Head). afterHead z s (length before)) e) ∙ opened in
+          let p : readResult (memoryInto v model clear s) (machineOf v model a s) (length clear) ≡ readResult x (machineOf v model a s) (length before) =
+          ap (λ (z : List ℕ). readResult (memoryInto v model z s) (machineOf v model a s) (length clear)) is-blank
+          ∙ ap (readResult x (machineOf v model a s)) long in
+          let q : readResult x (machineOf v model a s) (length before) ≡ readOf s (length before) = sym (ap (λ (z : Head). afterHead z s (length before)) e) ∙ opened in
           record {
-            leaves = subst (λ (o : Outcome). Leaves o r area) (p ∙ q) l;
-            valid = λ g. valid x (subst (λ (o : Outcome). Leaves o r area) p l) g;
+            leaves = subst (λ (o : ReadResult). ReadLeaves o r area) (p ∙ q) l;
+            valid = λ g. valid x (subst (λ (o : ReadResult). ReadLeaves o r area) p l) g;
           }
         where
-          valid : (x : Reading) → Leaves (outcomeOf x (machineOf v model a s) (length before)) r area → r .answer ≡ Accepted → validOf (r .machine) ≡ true
-          valid (refusal w) l g = absurd (never w (sym (l .answer) ∙ g))
-          valid (whole m) l g = ap validOf (l .machine) ∙ machine-valid s v model a (sym eh ∙ e)
+          valid : (x : Reading) → ReadLeaves (readResult x (machineOf v model a s) (length before)) r area → r .answer ≡ Accepted → validOf (r .machine) ≡ true
+          valid (unread w) l g = absurd (never w (sym (l .answer) ∙ g))
+          valid (readAs m) l g = ap validOf (l .machine) ∙ machine-valid s v model a (sym eh ∙ e)

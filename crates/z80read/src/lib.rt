@@ -10,11 +10,13 @@ ghost use Prim.Native.Nat.{_≤_};
 ghost use mathlib.Core.Path.{_≡_};
 ghost use lib.ListN.{length};
 ghost use Rattle.slices.specs.Blank.{blank};
-ghost use Rattle.spectrum.specs.declared.Answer.the-variants.{Accepted};
-ghost use Rattle.header.specs.Reading.{headerLength, machineOf};
+ghost use Rattle.spectrum.specs.declared.Answer.the-variants.{Accepted, Refused};
+ghost use Rattle.spectrum.specs.Machine.{blankMachine};
+ghost use Rattle.header.specs.Heads.{headerLength};
+ghost use Rattle.header_read.specs.Reading.{machineOf};
 ghost use Rattle.header.specs.Inner.{Readable};
-ghost use Rattle.blocks.specs.Inner.{Tells};
-ghost use Rattle.z80read.specs.Read.{memoryInto, refusedOpened, outcomeOf, readOf, Leaves, Reads};
+ghost use Rattle.blocks.specs.Blocks.{ReadsBody};
+ghost use Rattle.z80read.specs.Read.{memoryInto, readResult, readOf, ReadLeaves, Reads};
 
 // What reading gives beside the area: the answer, and the machine.
 pub struct Opened {
@@ -50,30 +52,27 @@ fn read_on(
     area: &mut [u8],
 ) -> Opened
     requires { ⌜ (Readable version model (now file)) × ((length (now area) ≡ 131072) × (now area ≡ blank 131072)) ⌝ }
-    ensures { λ r. ⌜ Leaves (outcomeOf (memoryInto version model (now (area .entry)) (now (file .entry))) (machineOf version model attachment (now (file .entry))) (length (now (area .entry)))) r (now (area .exit)) ⌝ }
+    ensures { λ r. ⌜ ReadLeaves (readResult (memoryInto version model (now (area .entry)) (now (file .entry))) (machineOf version model attachment (now (file .entry))) (length (now (area .entry)))) r (now (area .exit)) ⌝ }
 {
     let answer = read_memory(file, version, model, area);
     match answer {
-        Answer::Refused(why) => {
-            slices::fill(area, 0);
-            return refused(why);
-        }
+        Answer::Refused(why) => return refused(why),
         Answer::Accepted => {
-            let machine = header::reading::read_machine(file, version, model, attachment);
+            let machine = header_read::read_machine(file, version, model, attachment);
             return accepted(machine);
         }
     }
 }
 
-// What follows the header, into an area of zeros. Refused, the area is open.
+// What follows the header, into an area of zeros. Refused, the area is all zero.
 fn read_memory(file: &[u8], version: Version, model: Model, area: &mut [u8]) -> Answer
     requires { ⌜ (headerLength version ≤ length (now file)) × ((length (now area) ≡ 131072) × (now area ≡ blank 131072)) ⌝ }
-    ensures { λ r. ⌜ Tells (memoryInto version model (now (area .entry)) (now (file .entry))) r (now (area .exit)) ⌝ }
+    ensures { λ r. ⌜ ReadsBody (memoryInto version model (now (area .entry)) (now (file .entry))) r (now (area .exit)) ⌝ }
 {
     match version {
         Version::V1 => {
             let b = header::byte12(file);
-            return blocks::read_body(file, 30, b / 32 % 2 == 1, area);
+            return body_v1::read_body(file, 30, b / 32 % 2 == 1, area);
         }
         Version::V2 => return blocks::read_blocks(file, 55, model, area),
         Version::V3 => return blocks::read_blocks(file, 86, model, area),
@@ -90,7 +89,7 @@ fn accepted(machine: Machine) -> Opened
 }
 
 fn refused(why: Refusal) -> Opened
-    ensures { λ r. ⌜ r ≡ refusedOpened why ⌝ }
+    ensures { λ r. ⌜ r ≡ record { answer = Refused why; machine = blankMachine } ⌝ }
 {
     Opened {
         answer: Answer::Refused(why),

@@ -10,16 +10,16 @@ use lib.Dec.{ltb}
 use borrow.Author.Tests.{ltb-true}
 use Rattle.slices.specs.Choose.{choose}
 use Rattle.slices.proofs.Chosen.{either}
-use Rattle.packing.specs.Packed.{packed}
-use Rattle.packing.specs.Packed.Examples.{mixed, mixed-packed}
+use Rattle.packed.specs.Packed.{packed}
+use Rattle.packed.specs.Packed.Examples.{mixed, mixed-packed}
 use Rattle.spectrum.specs.declared.Machine.{Machine}
 use Rattle.spectrum.specs.declared.Model.{Model}
 use Rattle.spectrum.specs.declared.Model.the-variants.{K48, K128}
 use Rattle.spectrum.specs.declared.Answer.the-variants.{Accepted}
-use Rattle.spectrum.specs.Pages.{pageIn}
+use Rattle.spectrum.specs.declared.Slot.{Slot}
+use Rattle.spectrum.specs.Pages.{slots, pageIn}
 use Rattle.spectrum.specs.Valid.{validOf, Typed}
-use Rattle.z80write.specs.declared.Slot.{Slot}
-use Rattle.z80write.specs.Written.{blockFor, slots, laid, fileOf, Outcome, accepted, writtenOf}
+use Rattle.z80write.specs.Written.{blockFor, laid, fileOf, WriteResult, acceptedWrite, writtenOf}
 use Rattle.z80write.proofs.Parts.{block-size, block-plain}
 use Rattle.z80write.proofs.Whole.{file-long, room}
 
@@ -47,7 +47,7 @@ file-most m area t = omega (arith, file-long m area t, laid-most (slots (m .mode
 
 -- an output of that length is never too short
 pub never-short : (m : Machine) (area : List ℕ) (n : ℕ) → Typed m → validOf m ≡ true → length area ≡ 131072 → 131182 ≤ n → writtenOf m area n .answer ≡ Accepted
-never-short m area n t v h k = ap (λ (o : Outcome). o .answer) (room m area n v h (omega (arith, file-most m area t)))
+never-short m area n t v h k = ap (λ (o : WriteResult). o .answer) (room m area n v h (omega (arith, file-most m area t)))
 
 mixed-long : (k : ℕ) → length (mixed k) ≡ 2 * k
 unfolding mixed
@@ -102,5 +102,5 @@ longest m t k =
 
 -- an exact fit is taken
 pub exact-fit : (m : Machine) (area : List ℕ) → validOf m ≡ true → length area ≡ 131072
-    → writtenOf m area (length (fileOf m area)) ≡ accepted (fileOf m area) (length (fileOf m area))
+    → writtenOf m area (length (fileOf m area)) ≡ acceptedWrite (fileOf m area) (length (fileOf m area))
 exact-fit m area v h = room m area (length (fileOf m area)) v h (omega arith)

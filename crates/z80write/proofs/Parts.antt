@@ -13,13 +13,14 @@ use borrow.Rule.Slice.PartMut.{putMid, midOf, mid-len, same-len-mid, take-put}
 use Rattle.slices.specs.Choose.{choose}
 use Rattle.slices.specs.Put.{put}
 use Rattle.slices.proofs.Puts.{length-put, put-put}
-use Rattle.packing.specs.Packed.{packed}
-use Rattle.packing.specs.Packed.Promise.{page-short}
-use Rattle.packing.specs.Packing.{fits, fitted, Packs}
-use Rattle.packing.specs.declared.Fit.{Fit}
-use Rattle.packing.specs.declared.Fit.the-variants.{Length, TooShort}
+use Rattle.packed.specs.Packed.{packed}
+use Rattle.packed.specs.Packed.Promise.{page-short}
+use Rattle.packed.specs.Packing.{fits, fitted, Packs}
+use Rattle.packed.specs.declared.Fit.{Fit}
+use Rattle.packed.specs.declared.Fit.the-variants.{Length, TooShort}
 use Rattle.spectrum.specs.declared.Model.the-variants.{K48, K128}
-use Rattle.z80write.specs.Written.{blockFor, slot, slots}
+use Rattle.spectrum.specs.Pages.{slot, slots}
+use Rattle.z80write.specs.Written.{blockFor}
 use Rattle.z80write.specs.Inner.{PackedTo, PackedNot, PackedAt, Laid, Over, SlotAt}
 
 -- the slots

@@ -6,12 +6,12 @@ use mathlib.Core.Path.{_≡_, refl, sym, ap, subst, _∙_}
 use mathlib.Core.List.{List, [], _∷_, _++_, append-assoc, append-nil}
 use lib.ListN.{length, take, drop, length-append, drop-of-length-le}
 use lib.Seq.{drop-cons, length-take-le}
-use Rattle.packing.specs.declared.Fit.{Fit}
-use Rattle.packing.specs.declared.Fit.the-variants.{Length, TooShort}
+use Rattle.packed.specs.declared.Fit.{Fit}
+use Rattle.packed.specs.declared.Fit.the-variants.{Length, TooShort}
 use Rattle.spectrum.specs.declared.Model.{Model}
-use Rattle.spectrum.specs.Pages.{pageIn}
-use Rattle.z80write.specs.declared.Slot.{Slot}
-use Rattle.z80write.specs.Written.{blockFor, slot, slots, laid}
+use Rattle.spectrum.specs.declared.Slot.{Slot}
+use Rattle.spectrum.specs.Pages.{slot, slots, pageIn}
+use Rattle.z80write.specs.Written.{blockFor, laid}
 use Rattle.z80write.specs.Inner.{Laid, Over, Lays, SlotAt}
 
 -- the file's front stands in d up to `at`, and the blocks from i on are left

@@ -7,16 +7,17 @@ use mathlib.Core.List.{List, _++_}
 use lib.ListN.{length, take, drop, replicate, length-append}
 use lib.Seq.{take-add, drop-at, take-append-add, length-take-le, length-front}
 use borrow.Author.Tests.{eq-eqb, ne-eqb, le-leb, lt-leb}
-use Rattle.packing.specs.declared.Fit.{Fit}
-use Rattle.packing.specs.declared.Fit.the-variants.{Length, TooShort}
+use Rattle.packed.specs.declared.Fit.{Fit}
+use Rattle.packed.specs.declared.Fit.the-variants.{Length, TooShort}
 use Rattle.spectrum.specs.declared.Machine.{Machine}
 use Rattle.spectrum.specs.declared.Refusal.the-variants.{InvalidMachine, MemoryLength, OutputShort}
 use Rattle.spectrum.specs.declared.Answer.the-variants.{Accepted}
+use Rattle.spectrum.specs.Pages.{slots}
 use Rattle.spectrum.specs.Valid.{validOf, Typed}
-use Rattle.header.specs.Writing.{headerOf}
-use Rattle.header.proofs.WriteSteps.{header-length}
+use Rattle.header_write.specs.Writing.{headerOf}
+use Rattle.header_write.proofs.WriteSteps.{header-length}
 use Rattle.z80write.specs.declared.Written.{Written}
-use Rattle.z80write.specs.Written.{slots, laid, fileOf, Outcome, refusal, accepted, writtenOf, Writes}
+use Rattle.z80write.specs.Written.{laid, fileOf, WriteResult, refusedWrite, acceptedWrite, writtenOf, Writes}
 use Rattle.z80write.specs.Inner.{Laid, Over, Lays}
 
 abbrev pub blocksOf : Machine → List ℕ → List ℕ
@@ -26,20 +27,20 @@ pub file-long : (m : Machine) (area : List ℕ) → Typed m → length (fileOf m
 file-long m area t = length-append (headerOf m) (blocksOf m area) ∙ ap (λ (n : ℕ). n + length (blocksOf m area)) (header-length m t)
 
 -- the definition, case by case
-not-valid : (m : Machine) (area : List ℕ) (n : ℕ) → validOf m ≡ false → writtenOf m area n ≡ refusal InvalidMachine n
+not-valid : (m : Machine) (area : List ℕ) (n : ℕ) → validOf m ≡ false → writtenOf m area n ≡ refusedWrite InvalidMachine n
 unfolding writtenOf
 not-valid m area n v = rw v
 
-wrong-area : (m : Machine) (area : List ℕ) (n : ℕ) → validOf m ≡ true → (length area ≡ 131072 → ⊥) → writtenOf m area n ≡ refusal MemoryLength n
+wrong-area : (m : Machine) (area : List ℕ) (n : ℕ) → validOf m ≡ true → (length area ≡ 131072 → ⊥) → writtenOf m area n ≡ refusedWrite MemoryLength n
 unfolding writtenOf
 wrong-area m area n v h = rw (v, ne-eqb (length area) 131072 h)
 
 module _ (m : Machine) (area : List ℕ) (n : ℕ) (v : validOf m ≡ true) (h : length area ≡ 131072) where
-  no-room : n < length (fileOf m area) → writtenOf m area n ≡ refusal OutputShort n
+  no-room : n < length (fileOf m area) → writtenOf m area n ≡ refusedWrite OutputShort n
   unfolding writtenOf
   no-room k = rw (v, eq-eqb (length area) 131072 h, lt-leb (length (fileOf m area)) n k)
 
-  pub room : length (fileOf m area) ≤ n → writtenOf m area n ≡ accepted (fileOf m area) n
+  pub room : length (fileOf m area) ≤ n → writtenOf m area n ≡ acceptedWrite (fileOf m area) n
   unfolding writtenOf
   room k = rw (v, eq-eqb (length area) 131072 h, le-leb (length (fileOf m area)) n k)
 
@@ -56,26 +57,26 @@ under-header ws d₀ d₁ hs k n l w =
     ∙ ap (drop k) (sym (take-add k (length ws) d₁) ∙ ap (λ (j : ℕ). take j d₁) (sym (w .end)) ∙ w .wrote)
     ∙ drop-at (take k d₀) ws k b)
 
--- what is shown of one outcome holds of an equal one
-equally : {o p : Outcome} {r : Written} {d : List ℕ} → p ≡ o → Writes o r d → Writes p r d
-equally {o} {p} {r} {d} e w = subst (λ (x : Outcome). Writes x r d) (sym e) w
+-- what is shown of one result holds of an equal one
+equally : {o p : WriteResult} {r : Written} {d : List ℕ} → p ≡ o → Writes o r d → Writes p r d
+equally {o} {p} {r} {d} e w = subst (λ (x : WriteResult). Writes x r d) (sym e) w
 
 module _ (m : Machine) (area d₀ : List ℕ) (v : Bool) (u : v ≡ validOf m) where
-  pub writes-invalid : (r : Written) (d : List ℕ) → Writes (refusal InvalidMachine (length d₀)) r d → v ≡ false → Writes (writtenOf m area (length d₀)) r d
+  pub writes-invalid : (r : Written) (d : List ℕ) → Writes (refusedWrite InvalidMachine (length d₀)) r d → v ≡ false → Writes (writtenOf m area (length d₀)) r d
   writes-invalid r d w k = equally (not-valid m area (length d₀) (sym u ∙ k)) w
 
-  pub writes-area : (r : Written) (d : List ℕ) → Writes (refusal MemoryLength (length d₀)) r d → v ≡ true → (length area ≡ 131072 → ⊥) → Writes (writtenOf m area (length d₀)) r d
+  pub writes-area : (r : Written) (d : List ℕ) → Writes (refusedWrite MemoryLength (length d₀)) r d → v ≡ true → (length area ≡ 131072 → ⊥) → Writes (writtenOf m area (length d₀)) r d
   writes-area r d w k h = equally (wrong-area m area (length d₀) (sym u ∙ k) h) w
 
   module _ (k : v ≡ true) (h : length area ≡ 131072) (t : Typed m) where
-    pub writes-front : (r : Written) (d : List ℕ) → Writes (refusal OutputShort (length d₀)) r d → length d₀ < 86 → Writes (writtenOf m area (length d₀)) r d
+    pub writes-front : (r : Written) (d : List ℕ) → Writes (refusedWrite OutputShort (length d₀)) r d → length d₀ < 86 → Writes (writtenOf m area (length d₀)) r d
     writes-front r d w s = equally (no-room m area (length d₀) (sym u ∙ k) h (omega (arith, file-long m area t))) w
 
     module _ (f : Fit) (d₁ : List ℕ) (g : Lays (blocksOf m area) d₀ 86 f d₁) where
-      pub writes-short : (r : Written) (d : List ℕ) → Writes (refusal OutputShort (length d₁)) r d → f ≡ TooShort → Writes (writtenOf m area (length d₀)) r d
+      pub writes-short : (r : Written) (d : List ℕ) → Writes (refusedWrite OutputShort (length d₁)) r d → f ≡ TooShort → Writes (writtenOf m area (length d₀)) r d
       writes-short r d w q =
           let o : Over (blocksOf m area) d₀ 86 d₁ = subst (λ (y : Fit). Lays (blocksOf m area) d₀ 86 y d₁) q g in
-          equally (no-room m area (length d₀) (sym u ∙ k) h (omega (arith, o .over, file-long m area t))) (subst (λ (n : ℕ). Writes (refusal OutputShort n) r d) (o .long) w)
+          equally (no-room m area (length d₀) (sym u ∙ k) h (omega (arith, o .over, file-long m area t))) (subst (λ (n : ℕ). Writes (refusedWrite OutputShort n) r d) (o .long) w)
 
       pub writes-file : (n : ℕ) (d₂ d : List ℕ) → f ≡ Length n → d₂ ≡ headerOf m ++ drop 86 d₁ → d ≡ take n d₂ ++ replicate (length d₂ - n) 0
           → Writes (writtenOf m area (length d₀)) (record { answer = Accepted; length = n }) d

@@ -3,12 +3,12 @@ use Prim.Native.Nat.{ℕ, _+_, _-_, _<_, _≤_}
 use mathlib.Core.Path.{_≡_}
 use mathlib.Core.List.{List, _++_}
 use lib.ListN.{length, take, drop, getD}
-use Rattle.packing.specs.Packed.{packed}
-use Rattle.packing.specs.declared.Fit.{Fit}
-use Rattle.packing.specs.declared.Fit.the-variants.{Length, TooShort}
+use Rattle.packed.specs.Packed.{packed}
+use Rattle.packed.specs.declared.Fit.{Fit}
+use Rattle.packed.specs.declared.Fit.the-variants.{Length, TooShort}
 use Rattle.spectrum.specs.declared.Model.{Model}
-use Rattle.z80write.specs.declared.Slot.{Slot}
-use Rattle.z80write.specs.Written.{slot, slots}
+use Rattle.spectrum.specs.declared.Slot.{Slot}
+use Rattle.spectrum.specs.Pages.{slot, slots}
 
 -- s packed has n bytes and stands in d from a on; before a it is as in d₀
 pub record PackedTo (s d₀ : List ℕ) (a e n : ℕ) (d : List ℕ) : Type 0 where

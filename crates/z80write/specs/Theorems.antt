@@ -4,13 +4,13 @@ use mathlib.Core.Path.{_≡_}
 use mathlib.Core.Bool.{true}
 use mathlib.Core.List.{List, _∷_}
 use lib.ListN.{length}
-use Rattle.packing.specs.Packed.{packed}
-use Rattle.packing.specs.Packed.Examples.{mixed}
+use Rattle.packed.specs.Packed.{packed}
+use Rattle.packed.specs.Packed.Examples.{mixed}
 use Rattle.spectrum.specs.declared.Machine.{Machine}
 use Rattle.spectrum.specs.declared.Model.the-variants.{K128}
 use Rattle.spectrum.specs.declared.Answer.the-variants.{Accepted}
 use Rattle.spectrum.specs.Valid.{Typed, validOf}
-use Rattle.z80write.specs.Written.{blockFor, fileOf, accepted, writtenOf}
+use Rattle.z80write.specs.Written.{blockFor, fileOf, acceptedWrite, writtenOf}
 
 pub record Theorems : Type 0 where
   -- "shorter than 16,384 bytes, else FFFF": a page that packs to exactly 16,384 bytes goes plain
@@ -22,4 +22,4 @@ pub record Theorems : Type 0 where
   pub never-short : (m : Machine) (area : List ℕ) (n : ℕ) → Typed m → validOf m ≡ true → length area ≡ 131072 → 131182 ≤ n
       → writtenOf m area n .answer ≡ Accepted
   pub exact-fit : (m : Machine) (area : List ℕ) → validOf m ≡ true → length area ≡ 131072
-      → writtenOf m area (length (fileOf m area)) ≡ accepted (fileOf m area) (length (fileOf m area))
+      → writtenOf m area (length (fileOf m area)) ≡ acceptedWrite (fileOf m area) (length (fileOf m area))

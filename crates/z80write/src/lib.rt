@@ -1,24 +1,20 @@
 // Writing the one v3 file of a machine and its memory: blocks are packed into the output itself, then the header.
 // Above packing and header, through their promises alone.
-use packing::Fit;
+use packed::Fit;
 use spectrum::Answer;
 use spectrum::Machine;
 use spectrum::Model;
 use spectrum::Refusal;
-ghost use Prim.Native.Nat.{_+_, _/_, _%_, _≤_, _<_, min};
+use spectrum::Slot;
+ghost use Prim.Native.Nat.{_+_, _/_, _%_, _≤_, _<_};
 ghost use mathlib.Core.Path.{_≡_};
 ghost use mathlib.Core.List.{_∷_, []};
 ghost use lib.ListN.{length};
 ghost use Rattle.slices.specs.Put.{put};
 ghost use Rattle.spectrum.specs.declared.Model.the-variants.{K48, K128};
-ghost use Rattle.z80write.specs.Written.{blockFor, slots, laid, refusal, writtenOf, Writes};
+ghost use Rattle.spectrum.specs.Pages.{slots};
+ghost use Rattle.z80write.specs.Written.{blockFor, laid, refusedWrite, writtenOf, Writes};
 ghost use Rattle.z80write.specs.Inner.{PackedAt, Lays, SlotAt};
-
-// A block number and the RAM page that it stands for.
-pub struct Slot {
-    pub number: u8,
-    pub page: usize,
-}
 
 // The answer of writing, and the file's length.
 pub struct Written {
@@ -33,29 +29,29 @@ pub fn write(m: Machine, area: &[u8], out: &mut [u8]) -> Written
     m.typed();
     if m.valid() {
         if area.len() != 131072 {
-            return refuse(out, Refusal::MemoryLength);
+            return refuse_write(out, Refusal::MemoryLength);
         }
         if out.len() < 86 {
-            return refuse(out, Refusal::OutputShort);
+            return refuse_write(out, Refusal::OutputShort);
         }
         let model = m.model;
         match lay(area, model, out, 86) {
             Fit::Length(n) => {
-                header::writing::write_header(m, out);
+                header_write::write_header(m, out);
                 slices::clear_from(out, n);
                 return Written {
                     answer: Answer::Accepted,
                     length: n,
                 };
             }
-            Fit::TooShort => return refuse(out, Refusal::OutputShort),
+            Fit::TooShort => return refuse_write(out, Refusal::OutputShort),
         }
     }
-    refuse(out, Refusal::InvalidMachine)
+    refuse_write(out, Refusal::InvalidMachine)
 }
 
-fn refuse(out: &mut [u8], why: Refusal) -> Written
-    ensures { λ r. ⌜ Writes (refusal why (length (now (out .entry)))) r (now (out .exit)) ⌝ }
+fn refuse_write(out: &mut [u8], why: Refusal) -> Written
+    ensures { λ r. ⌜ Writes (refusedWrite why (length (now (out .entry)))) r (now (out .exit)) ⌝ }
 {
     slices::fill(out, 0);
     Written {
@@ -97,7 +93,7 @@ fn write_block(page: &[u8], number: u8, out: &mut [u8], at: usize) -> Fit
         return Fit::TooShort;
     }
     let start = at + 3;
-    let end = start + min_of(room - 3, 16383);
+    let end = start + slices::least(room - 3, 16383);
     match pack_at(page, out, start, end) {
         Fit::Length(n) => {
             put_head(out, at, n, number);
@@ -171,10 +167,4 @@ fn slot_128(i: usize) -> Slot
         number: (i + 3) as u8,
         page: i,
     }
-}
-
-fn min_of(a: usize, b: usize) -> usize
-    ensures { λ r. ⌜ r ≡ min a b ⌝ }
-{
-    if a < b { a } else { b }
 }

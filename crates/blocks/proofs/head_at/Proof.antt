@@ -9,17 +9,20 @@ sub-left c = search needs
 returns : tie.Need-returns
 returns c = search short
 
-shared-slice-read-word : tie.Need-shared-slice-read-word
-shared-slice-read-word c = search needs
+shared-slice-read-word-of : tie.Need-shared-slice-read-word-of
+shared-slice-read-word-of c = search needs
 
-add-word : tie.Need-add-word
-add-word c = search needs
+add-word-of : tie.Need-add-word-of
+add-word-of c = search needs
 
-shared-slice-read-word-2 : tie.Need-shared-slice-read-word-2
-shared-slice-read-word-2 c = search needs
+shared-slice-read-word-of-2 : tie.Need-shared-slice-read-word-of-2
+shared-slice-read-word-of-2 c = search needs
 
-word-requires : tie.Need-word-requires
-word-requires c κs = search needs
+word-of-requires : tie.Need-word-of-requires
+word-of-requires c κs = search needs
+
+cast-n : tie.Need-cast-n
+cast-n c = search needs
 
 add-number : tie.Need-add-number
 add-number c = search needs
@@ -66,10 +69,11 @@ head-at-spec =
     (tie.spec
     sub-left
     returns
-    shared-slice-read-word
-    add-word
-    shared-slice-read-word-2
-    word-requires
+    shared-slice-read-word-of
+    add-word-of
+    shared-slice-read-word-of-2
+    word-of-requires
+    cast-n
     add-number
     shared-slice-read-number
     size-of-requires

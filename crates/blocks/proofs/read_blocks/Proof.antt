@@ -22,6 +22,9 @@ read-block-requires c κs = search needs
 enum-known-why : tie.Need-enum-known-why Inv-loop μ-loop
 enum-known-why c = search needs
 
+refused-area-requires : tie.Need-refused-area-requires Inv-loop μ-loop
+refused-area-requires c κs = search needs
+
 same-length : tie.Need-same-length Inv-loop μ-loop
 same-length c = search needs
 
@@ -49,6 +52,9 @@ same-length-2 c = search needs
 returns-2 : tie.Need-returns-2 Inv-loop μ-loop
 returns-2 c = search going-all
 
+refused-area-requires-2 : tie.Need-refused-area-requires-2 Inv-loop μ-loop
+refused-area-requires-2 c κs = search needs
+
 same-length-3 : tie.Need-same-length-3 Inv-loop μ-loop
 same-length-3 c = search needs
 
@@ -64,6 +70,7 @@ read-blocks-spec =
     loop-holds
     read-block-requires
     enum-known-why
+    refused-area-requires
     same-length
     returns
     enum-known-page
@@ -73,5 +80,6 @@ read-blocks-spec =
     all-there-requires
     same-length-2
     returns-2
+    refused-area-requires-2
     same-length-3
     returns-3)

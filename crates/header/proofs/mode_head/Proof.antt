@@ -1,5 +1,4 @@
-use Rattle.header.proofs.ReadSteps.{inside-29}
-use Rattle.header.proofs.HeadSteps.{mode-im, mode-1, mode-2, mode-3, long-v3}
+use Rattle.header.proofs.HeadSteps.{inside-29, mode-im, mode-1, mode-2, mode-3, long-v3}
 use borrow.Author.Needs.{needs}
 use Rattle.header.proofs.mode_head.Statement.{statement}
 use Rattle.header.proofs.mode_head.Tie as tie

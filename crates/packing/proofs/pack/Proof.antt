@@ -1,5 +1,4 @@
-use Rattle.packing.proofs.PackSteps.{packs-long, packs-short}
-use Prim.Native.Nat.{_-_}
+use Rattle.packing.proofs.Answers.{packs-long, packs-short}
 use borrow.Author.Needs.{needs}
 use Rattle.packing.proofs.pack.Statement.{statement}
 use Rattle.packing.proofs.pack.Tie as tie

@@ -3,7 +3,7 @@ use mathlib.Core.Path.{_≡_, refl, _∙_}
 use native.Mathlib.Omega.{arith}
 use lib.ListN.{length}
 use borrow.Author.Needs.{needs}
-use Rattle.server.specs.Server.{buffers}
+use Rattle.journal_bytes.specs.Calls.{buffers}
 use Rattle.server.proofs.Turns.{Going, going-none, going-more, going-done, serves, number-fits}
 use Rattle.server.proofs.serve.Statement.{statement}
 use Rattle.server.proofs.serve.Tie as tie
@@ -33,7 +33,7 @@ call-made-requires c κs = search needs
 
 cast-numbers : tie.Need-cast-numbers Inv-loop μ-loop
 cast-numbers c =
-    let q = number-fits _ _ _ _ _ _ _ _ (c .before .before .before .before .before .before .call-made .ensures .leaves) in
+    let q = number-fits _ _ _ _ (c .before .before .before .before .before .before .call-made .ensures .leaves) in
     omega arith
 
 slice-write-numbers : tie.Need-slice-write-numbers Inv-loop μ-loop
@@ -50,7 +50,7 @@ loop-again c =
     let m = c .before .before .before .before .before .before in
     let f = m .before .before .before .before .before .before in
     let inv = f .before .before .loop .inv in (
-      going-more _ _ _ _ _ _ _ _ _ _ _ _ _ _ (inv .0) (f .before .loop-test .taken) (f .call-at .ensures) (m .call-made .ensures .leaves),
+      going-more _ _ _ _ _ _ _ _ _ _ (inv .0) (f .before .loop-test .taken) (f .call-at .ensures) (m .call-made .ensures .leaves),
       m .call-made .kept .0 ∙ inv .1,
       m .call-made .kept .1 .0 ∙ inv .2,
       m .call-made .kept .1 .1 .0 ∙ inv .3,
@@ -79,7 +79,7 @@ returns c =
     let head = c .before .before .before .before .before .before .before .before .before .before .before .before .before .before .before .before .before .slice-known .given in
     let area = c .before .before .before .before .before .before .before .before .before .before .before .before .before .before .before .before .slice-known2 .given in
     let calls = c .before .before .before .before .before .before .before .before .before .before .before .before .before .before .shared-slice-known .given in
-    serves _ _ _ _ _ _ _ _ _ _ _ (λ j. omega (arith, head j)) (λ j. omega (arith, area j)) (λ j. omega (arith, calls j)) (start .1 .0) (start .1 .1 .0) (start .1 .1 .1) n
+    serves _ _ _ _ _ _ _ _ _ _ _ (λ j. omega (arith, head j)) (λ j. omega (arith, area j)) (λ j. omega (arith, calls j)) (start .log-zero) (start .standing-0) (start .total-0) n
     (going-done _ _ _ _ _ _ _ _ (t .before .loop .inv .0) (t .loop-test .left) n (c .before .before .clear-from .ensures))
 
 pub serve-spec : {M : Type 1} → statement M

@@ -4,8 +4,8 @@ use borrow.Author.Needs.{needs}
 use Rattle.view.proofs.view.Statement.{statement}
 use Rattle.view.proofs.view.Tie as tie
 
-place-requires : tie.Need-place-requires
-place-requires c κs = search needs
+locate-requires : tie.Need-locate-requires
+locate-requires c κs = search needs
 
 enum-told : tie.Need-enum-told
 enum-told c = search needs
@@ -26,7 +26,7 @@ enum-known-part : tie.Need-enum-known-part
 enum-known-part c = search needs
 
 add-end : tie.Need-add-end
-add-end c = omega (arith, area-inside _ _ _ _ _ (c .before .before .before .place .ensures) _ (c .before .part .given .1), c .before .before .before .before .before .before .good)
+add-end c = omega (arith, area-inside _ _ _ _ _ (c .before .before .before .locate .ensures) _ (c .before .part .given .1), c .before .before .before .before .before .before .good)
 
 sub-result-2 : tie.Need-sub-result-2
 sub-result-2 c = search needs
@@ -44,7 +44,7 @@ enum-known-part-2 : tie.Need-enum-known-part-2
 enum-known-part-2 c = search needs
 
 add-end-2 : tie.Need-add-end-2
-add-end-2 c = omega (arith, rom-fits _ _ _ _ _ (c .before .before .before .place .ensures) _ (c .before .part2 .given .1), c .before .before .before .before .before .before .good)
+add-end-2 c = omega (arith, rom-fits _ _ _ _ _ (c .before .before .before .locate .ensures) _ (c .before .part2 .given .1), c .before .before .before .before .before .before .good)
 
 sub-result-3 : tie.Need-sub-result-3
 sub-result-3 c = search needs
@@ -62,7 +62,7 @@ pub view-spec : {M : Type 1} → statement M
 view-spec =
     tie.close
     (tie.spec
-    place-requires
+    locate-requires
     enum-told
     sub-result
     part-result-start

@@ -3,14 +3,14 @@ use Rattle.view_exports.proofs.Pages.{page-none, page-fits, page-over}
 use borrow.Author.Needs.{needs}
 use Rattle.view_exports.proofs.view_page.Statement.{statement}
 use Rattle.view_exports.proofs.view_page.Tie as tie
-use Rattle.header.proofs.take_header.Reads as take-header-reads
+use Rattle.header_canonical.proofs.decode_header.Reads as decode-header-reads
 use Rattle.slices.proofs.put_at.Reads as put-at-reads
 
 fill-requires : tie.Need-fill-requires
 fill-requires c κs = search needs
 
-take-header-requires : tie.Need-take-header-requires
-take-header-requires c κs = search needs
+decode-header-requires : tie.Need-decode-header-requires
+decode-header-requires c κs = search needs
 
 view-requires : tie.Need-view-requires
 view-requires c κs = search needs
@@ -23,27 +23,27 @@ same-length c = search needs
 
 returns : tie.Need-returns
 returns c =
-    page-fits _ _ _ _ _ _ _ (c .before .before .before .before .before .before .before .before .take-header .ensures) (c .before .before .before .before .before .before .before .before .before .before .before .fill .ensures) _ _ (search needs) (c .before .before .before .before .before .view .ensures) refl _ (search needs) (c .before .before .put-at .ensures)
+    page-fits _ _ _ _ _ _ _ (c .before .before .before .before .before .before .before .before .decode-header .ensures) (c .before .before .before .before .before .before .before .before .before .before .before .fill .ensures) _ _ (search needs) (c .before .before .before .before .before .view .ensures) refl _ (search needs) (c .before .before .put-at .ensures)
 
 same-length-2 : tie.Need-same-length-2
 same-length-2 c = search needs
 
 returns-2 : tie.Need-returns-2
 returns-2 c =
-    page-over _ _ _ _ _ _ _ (c .before .before .before .before .take-header .ensures) (c .before .before .before .before .before .before .before .fill .ensures) _ _ (search needs) (c .before .view .ensures) refl (search needs)
+    page-over _ _ _ _ _ _ _ (c .before .before .before .before .decode-header .ensures) (c .before .before .before .before .before .before .before .fill .ensures) _ _ (search needs) (c .before .view .ensures) refl (search needs)
 
 same-length-3 : tie.Need-same-length-3
 same-length-3 c = search needs
 
 returns-3 : tie.Need-returns-3
-returns-3 c = page-none _ _ _ _ _ _ _ (c .before .take-header .ensures) (c .before .before .before .before .fill .ensures) (search needs)
+returns-3 c = page-none _ _ _ _ _ _ _ (c .before .decode-header .ensures) (c .before .before .before .before .fill .ensures) (search needs)
 
 pub view-page-spec : {M : Type 1} → statement M
 view-page-spec =
     tie.close
     (tie.spec
     fill-requires
-    take-header-requires
+    decode-header-requires
     view-requires
     put-at-requires
     same-length

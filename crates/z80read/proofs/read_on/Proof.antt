@@ -9,9 +9,6 @@ read-memory-requires c κs = search needs
 enum-known-answer : tie.Need-enum-known-answer
 enum-known-answer c = search needs
 
-fill-requires : tie.Need-fill-requires
-fill-requires c κs = search needs
-
 refused-requires : tie.Need-refused-requires
 refused-requires c κs = search needs
 
@@ -42,7 +39,6 @@ read-on-spec =
     (tie.spec
     read-memory-requires
     enum-known-answer
-    fill-requires
     refused-requires
     same-length
     returns

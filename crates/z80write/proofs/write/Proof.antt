@@ -9,8 +9,8 @@ typed-requires c κs = search needs
 valid-requires : tie.Need-valid-requires
 valid-requires c κs = search needs
 
-refuse-requires : tie.Need-refuse-requires
-refuse-requires c κs = search needs
+refuse-write-requires : tie.Need-refuse-write-requires
+refuse-write-requires c κs = search needs
 
 same-length : tie.Need-same-length
 same-length c = search needs
@@ -18,8 +18,8 @@ same-length c = search needs
 returns : tie.Need-returns
 returns c = search writes-area
 
-refuse-requires-2 : tie.Need-refuse-requires-2
-refuse-requires-2 c κs = search needs
+refuse-write-requires-2 : tie.Need-refuse-write-requires-2
+refuse-write-requires-2 c κs = search needs
 
 same-length-2 : tie.Need-same-length-2
 same-length-2 c = search needs
@@ -48,8 +48,8 @@ returns-3 c = search writes-file
 enum-told : tie.Need-enum-told
 enum-told c = search needs
 
-refuse-requires-3 : tie.Need-refuse-requires-3
-refuse-requires-3 c κs = search needs
+refuse-write-requires-3 : tie.Need-refuse-write-requires-3
+refuse-write-requires-3 c κs = search needs
 
 same-length-4 : tie.Need-same-length-4
 same-length-4 c = search needs
@@ -57,8 +57,8 @@ same-length-4 c = search needs
 returns-4 : tie.Need-returns-4
 returns-4 c = search writes-short
 
-refuse-requires-4 : tie.Need-refuse-requires-4
-refuse-requires-4 c κs = search needs
+refuse-write-requires-4 : tie.Need-refuse-write-requires-4
+refuse-write-requires-4 c κs = search needs
 
 same-length-5 : tie.Need-same-length-5
 same-length-5 c = search needs
@@ -72,10 +72,10 @@ write-spec =
     (tie.spec
     typed-requires
     valid-requires
-    refuse-requires
+    refuse-write-requires
     same-length
     returns
-    refuse-requires-2
+    refuse-write-requires-2
     same-length-2
     returns-2
     lay-requires
@@ -85,9 +85,9 @@ write-spec =
     same-length-3
     returns-3
     enum-told
-    refuse-requires-3
+    refuse-write-requires-3
     same-length-4
     returns-4
-    refuse-requires-4
+    refuse-write-requires-4
     same-length-5
     returns-5)

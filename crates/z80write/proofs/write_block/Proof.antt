@@ -14,8 +14,8 @@ returns c = search no-head
 add-start : tie.Need-add-start
 add-start c = search needs
 
-min-of-requires : tie.Need-min-of-requires
-min-of-requires c κs = search needs
+least-requires : tie.Need-least-requires
+least-requires c κs = search needs
 
 add-end : tie.Need-add-end
 add-end c = search needs
@@ -30,14 +30,14 @@ put-head-requires : tie.Need-put-head-requires
 put-head-requires c κs = (search head-room, search head-small)
 
 add-t18 : tie.Need-add-t18
-add-t18 c = let h : c .before .before .before .before .before .n .given .0 .0 ≤ c .before .before .before .before .before .before .before .before .before .before .before .min-of .result = search fits-room in omega arith
+add-t18 c = let h : c .before .before .before .before .before .n .given .0 .0 ≤ c .before .before .before .before .before .before .before .before .before .before .before .least .result = search fits-room in omega arith
 
 same-length : tie.Need-same-length
 same-length c = search needs
 
 returns-2 : tie.Need-returns-2
 returns-2 c =
-    let h : c .before .before .before .before .before .n .given .0 .0 ≤ c .before .before .before .before .before .before .before .before .before .before .before .min-of .result = search fits-room in
+    let h : c .before .before .before .before .before .n .given .0 .0 ≤ c .before .before .before .before .before .before .before .before .before .before .before .least .result = search fits-room in
     let small : c .before .before .before .before .before .n .given .0 .0 < 16384 = omega arith in
     search laid-packed
 
@@ -72,7 +72,7 @@ write-block-spec =
     sub-room
     returns
     add-start
-    min-of-requires
+    least-requires
     add-end
     pack-at-requires
     enum-known-n

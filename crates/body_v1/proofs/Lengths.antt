@@ -1,0 +1,34 @@
+-- How long a body that is read is at most.
+use Prim.Native.Nat.{ℕ, _+_, _-_, _*_, _≤_}
+use mathlib.Core.Path.{_≡_, refl, ap}
+use mathlib.Core.Bool.{Bool, true, false}
+use mathlib.Core.List.{List}
+use native.Mathlib.Omega.{arith}
+use borrow.Author.Tests.{eqb-true}
+use lib.Dec.{eqb}
+use lib.ListN.{length, take, length-take}
+use Rattle.slices.specs.Choose.{choose}
+use Rattle.packed.specs.Packed.{Found, malformed, bytes, unpacked}
+use Rattle.packed.specs.Packed.Promise.{unpacked-long}
+use Rattle.spectrum.specs.declared.Refusal.{Refusal}
+use Rattle.spectrum.specs.declared.Refusal.the-variants.{UnpackedLength, EndMarker}
+use Rattle.blocks.specs.Blocks.{Reading, unread, readAs}
+use Rattle.body_v1.specs.Body.{spread, spreadFrom, marked, bodyInto}
+
+only-read : (P : Type 0) (t : Bool) (x : Reading) (why : Refusal) (a : List ℕ) → (t ≡ true → x ≡ readAs a → P) → choose t x (unread why) ≡ readAs a → P
+only-read P true x why a f e = f refl e
+only-read P false x why a f e = let z : _≡_ {A = ℕ} 0 1 = cc in absurd (omega arith)
+
+spread-most : (n : ℕ) (d : Found) (area a : List ℕ) → ((xs : List ℕ) → d ≡ bytes xs → n ≤ 4 + 4 * length xs) → spreadFrom d area ≡ readAs a → n ≤ 196612
+spread-most n malformed area a f e = let z : _≡_ {A = ℕ} 0 1 = cc in absurd (omega arith)
+spread-most n (bytes xs) area a f e =
+    only-read (n ≤ 196612) (eqb (length xs) 49152) (readAs (spread area xs)) UnpackedLength a (λ t q. omega (arith, f xs refl, eqb-true (length xs) 49152 t)) e
+
+-- 4 * 49,152 and the four bytes of the end marker
+pub body-most : (packed : Bool) (area s a : List ℕ) → bodyInto packed area s ≡ readAs a → length s ≤ 196612
+unfolding bodyInto
+body-most true area s a e =
+    let n = length s - 4 in
+    only-read (length s ≤ 196612) (marked s) (spreadFrom (unpacked (take n s)) area) EndMarker a
+    (λ t. spread-most (length s) (unpacked (take n s)) area a (λ xs h. omega (arith, unpacked-long (take n s) xs h, length-take n s))) e
+body-most false area s a e = spread-most (length s) (bytes s) area a (λ xs h. let p : s ≡ xs = cc in omega (arith, ap length p)) e

@@ -1,0 +1,3 @@
+mod Bodies
+mod Moves
+pub mod Lengths

@@ -1,0 +1,161 @@
+-- What stands at a place of packed data, the search for a bad code, and the loop.
+use Prim.Native.Nat.{ℕ, _+_, _≤_, _<_}
+use native.Mathlib.Nat.{add-zero}
+use native.Mathlib.Omega.{arith}
+use mathlib.Core.Path.{_≡_, refl, sym, ap, _∙_}
+use mathlib.Core.Bool.{Bool, true, false}
+use mathlib.Core.List.{List, [], _∷_, _++_, append-nil}
+use lib.ListN.{length, getD, take, drop, replicate, length-append, length-drop, length-replicate, drop-of-length-le}
+use lib.Seq.{getD-drop, drop-drop, take-all, length-take-le}
+use lib.Dec.{eqb}
+use borrow.Author.Tests.{ne-eqb, eq-eqb}
+use Rattle.packed.specs.Packed.{Found, malformed, bytes, before, run, unpacked}
+use Rattle.packed.specs.Packed.Steps.{front-plain, front-cut, front-run, unpacked-nil}
+use Rattle.packed.specs.Unpacking.{answerOf}
+use Rattle.packed.specs.Inner.{over, Into}
+use Rattle.codes.specs.Inner.{pairAt}
+use Rattle.codes.proofs.Pair.{pair-there}
+use Rattle.stores.specs.Stored.{Stored}
+use Rattle.packed.proofs.Frame.{Frame, onward}
+use Rattle.packed.specs.declared.Unpacked.{Unpacked}
+use Rattle.packed.specs.declared.Unpacked.the-variants.{Good, WrongLength, Malformed}
+
+module _ (s : List ℕ) (i : ℕ) (r : Bool) (e : r ≡ pairAt s i) where
+  pub step-plain : i < length s → r ≡ false → unpacked (drop i s) ≡ before (getD s i 0 ∷ []) (unpacked (drop (i + 1) s))
+  step-plain h f =
+      let l : 0 < length (drop i s) = simp length-drop (omega arith) in
+      rw (getD-drop i s 0 0, drop-drop 1 i s, add-zero i) at (front-plain (drop i s) l (pair-there s i r e ∙ f))
+
+  pub step-cut : length s < i + 4 → r ≡ true → unpacked (drop i s) ≡ malformed
+  step-cut h t =
+      let l : length (drop i s) < 4 = simp length-drop (omega arith) in
+      front-cut (drop i s) l (pair-there s i r e ∙ t)
+
+  pub step-run : i + 4 ≤ length s → r ≡ true → unpacked (drop i s) ≡ run (getD s (i + 2) 0) (getD s (i + 3) 0) (unpacked (drop (i + 4) s))
+  step-run h t =
+      let l : 4 ≤ length (drop i s) = simp length-drop (omega arith) in
+      rw (getD-drop i s 2 0, getD-drop i s 3 0, drop-drop 4 i s) at (front-run (drop i s) l (pair-there s i r e ∙ t))
+
+pub step-end : (s : List ℕ) (i : ℕ) → length s ≤ i → unpacked (drop i s) ≡ bytes []
+step-end s i h = ap unpacked (drop-of-length-le s {i = i} h) ∙ unpacked-nil
+
+over-before : (xs : List ℕ) (u : Found) → over (before xs u) ≡ over u
+over-before xs malformed = refl
+over-before xs (bytes ys) = refl
+
+-- the search for a malformed code has come from `from` to i
+pub record Resting (s : List ℕ) (from i : ℕ) : Type 0 where
+  pub reach : i ≤ length s
+  pub same : over (unpacked (drop from s)) ≡ over (unpacked (drop i s))
+
+pub resting-none : (s : List ℕ) (from : ℕ) → from ≤ length s → Resting s from from
+resting-none s from h = record { reach = h; same = refl }
+
+module _ (s : List ℕ) (from i : ℕ) (r : Bool) (g : Resting s from i) (e : r ≡ pairAt s i) where
+  pub resting-plain : i < length s → r ≡ false → Resting s from (i + 1)
+  resting-plain h f =
+      record {
+        reach = omega arith;
+        same = g .same ∙ ap over (step-plain s i r e h f) ∙ over-before (getD s i 0 ∷ []) (unpacked (drop (i + 1) s));
+      }
+
+  pub resting-run : i + 4 ≤ length s → r ≡ true → (getD s (i + 2) 0 ≡ 0 → ⊥) → Resting s from (i + 4)
+  resting-run h t z =
+      record {
+        reach = h;
+        same =
+            g .same ∙ ap over (step-run s i r e h t)
+            ∙ rw (ne-eqb (getD s (i + 2) 0) 0 z) (over-before (replicate (getD s (i + 2) 0) (getD s (i + 3) 0)) (unpacked (drop (i + 4) s)));
+      }
+
+  pub resting-cut : length s < i + 4 → r ≡ true → Malformed ≡ over (unpacked (drop from s))
+  resting-cut h t = sym (g .same ∙ ap over (step-cut s i r e h t))
+
+  pub resting-zero : i + 4 ≤ length s → r ≡ true → getD s (i + 2) 0 ≡ 0 → Malformed ≡ over (unpacked (drop from s))
+  resting-zero h t z = sym (g .same ∙ ap over (step-run s i r e h t) ∙ rw (eq-eqb (getD s (i + 2) 0) 0 z))
+
+pub resting-end : (s : List ℕ) (from i : ℕ) → Resting s from i → length s ≤ i → WrongLength ≡ over (unpacked (drop from s))
+resting-end s from i g h = sym (g .same ∙ ap over (step-end s i h))
+
+not-good : (r : Unpacked) → r ≡ Malformed → r ≡ Good → ⊥
+not-good r p q = let z : _≡_ {A = ℕ} 0 1 = cc in omega arith
+
+pub over-not-good : (u : Found) → over u ≡ Good → ⊥
+over-not-good malformed q = let z : _≡_ {A = ℕ} 0 1 = cc in omega arith
+over-not-good (bytes xs) q = let z : _≡_ {A = ℕ} 0 1 = cc in omega arith
+
+full : (xs ys : List ℕ) (w : Found) (n : ℕ) → n < length xs + length ys → over (before ys w) ≡ answerOf (before xs (before ys w)) n
+full xs ys malformed n h = refl
+full xs ys (bytes zs) n h =
+    let l : length (xs ++ (ys ++ zs)) ≡ length xs + (length ys + length zs) = length-append xs (ys ++ zs) ∙ ap (λ (m : ℕ). length xs + m) (length-append ys zs) in
+    simp (ne-eqb (length (xs ++ (ys ++ zs))) n (λ e. omega arith))
+
+module _ (u : Found) (s d₀ d : List ℕ) (i o : ℕ) (g : Frame unpacked u s d₀ d i o) where
+  -- the output is full, and what is at i stands for ys and more
+  over-into : (r : Unpacked) (ys : List ℕ) (w : Found) → r ≡ over (unpacked (drop i s)) → unpacked (drop i s) ≡ before ys w → length d < o + length ys
+      → Into u d₀ r d
+  over-into r ys w er eu h =
+      let l : length (take o d) ≡ o = length-take-le o d (g .room) in
+      record {
+        answer =
+            er ∙ ap over eu ∙ full (take o d) ys w (length d₀) (omega (arith, g .long))
+            ∙ ap (λ (u : Found). answerOf u (length d₀)) (sym (g .same ∙ ap (before (take o d)) eu));
+        found = λ q. absurd (over-not-good (unpacked (drop i s)) (sym er ∙ q));
+      }
+
+  bad-into : unpacked (drop i s) ≡ malformed → Into u d₀ Malformed d
+  bad-into e =
+      record {
+        answer = ap (λ (u : Found). answerOf u (length d₀)) (sym (g .same ∙ ap (before (take o d)) e));
+        found = λ q. absurd (not-good Malformed refl q);
+      }
+
+  module _ (r : Bool) (e : r ≡ pairAt s i) where
+    pub going-plain : (d′ : List ℕ) → Stored d o (getD s i 0 ∷ []) d′ → i < length s → r ≡ false → o < length d → Frame unpacked u s d₀ d′ (i + 1) (o + 1)
+    going-plain d′ p h f k =
+        onward unpacked u s d₀ d i o g d′ (getD s i 0 ∷ []) (i + 1) (o + 1) (record { step = step-plain s i r e h f; inside = omega arith }) p refl (omega arith)
+
+    pub full-plain : (a : Unpacked) → i < length s → r ≡ false → length d ≤ o → a ≡ over (unpacked (drop i s)) → Into u d₀ a d
+    full-plain a h f k p = over-into a (getD s i 0 ∷ []) (unpacked (drop (i + 1) s)) p (step-plain s i r e h f) (omega arith)
+
+    pub cut-into : length s < i + 4 → r ≡ true → Into u d₀ Malformed d
+    cut-into h t = bad-into (step-cut s i r e h t)
+
+    module _ (n : ℕ) (h : i + 4 ≤ length s) (t : r ≡ true) (en : n ≡ getD s (i + 2) 0) where
+      stands : (n ≡ 0 → ⊥) → unpacked (drop i s) ≡ before (replicate n (getD s (i + 3) 0)) (unpacked (drop (i + 4) s))
+      stands z =
+          step-run s i r e h t ∙ ap (λ (m : ℕ). run m (getD s (i + 3) 0) (unpacked (drop (i + 4) s))) (sym en) ∙ rw (ne-eqb n 0 z)
+
+      pub zero-into : n ≡ 0 → Into u d₀ Malformed d
+      zero-into z = bad-into (step-run s i r e h t ∙ rw (eq-eqb (getD s (i + 2) 0) 0 (sym en ∙ z)))
+
+      pub full-run : (a : Unpacked) → (n ≡ 0 → ⊥) → length d < o + n → a ≡ over (unpacked (drop i s)) → Into u d₀ a d
+      full-run a z k p =
+          over-into a (replicate n (getD s (i + 3) 0)) (unpacked (drop (i + 4) s)) p (stands z) (omega (arith, length-replicate n (getD s (i + 3) 0)))
+
+      pub going-run : (d′ : List ℕ) → Stored d o (replicate n (getD s (i + 3) 0)) d′ → (n ≡ 0 → ⊥) → o + n ≤ length d → Frame unpacked u s d₀ d′ (i + 4) (o + n)
+      going-run d′ p z k =
+          onward unpacked u s d₀ d i o g d′ (replicate n (getD s (i + 3) 0)) (i + 4) (o + n) (record { step = stands z; inside = h }) p
+          (ap (λ (m : ℕ). o + m) (length-replicate n (getD s (i + 3) 0))) k
+
+  -- all is read
+  whole : length s ≤ i → u ≡ bytes (take o d)
+  whole h = g .same ∙ ap (before (take o d)) (step-end s i h) ∙ ap bytes (append-nil (take o d))
+
+  pub good-into : length s ≤ i → o ≡ length d → Into u d₀ Good d
+  good-into h e =
+      let l : length (take o d) ≡ o = length-take-le o d (g .room) in
+      let q : eqb (length (take o d)) (length d₀) ≡ true = eq-eqb (length (take o d)) (length d₀) (omega (arith, g .long)) in
+      record {
+        answer = rw (whole h, q);
+        found = λ _. rw (whole h, q) (take-all o d (omega arith));
+      }
+
+  pub wrong-into : length s ≤ i → (o ≡ length d → ⊥) → Into u d₀ WrongLength d
+  wrong-into h e =
+      let l : length (take o d) ≡ o = length-take-le o d (g .room) in
+      let q : eqb (length (take o d)) (length d₀) ≡ false = ne-eqb (length (take o d)) (length d₀) (λ z. e (omega (arith, g .long))) in
+      record {
+        answer = rw (whole h, q);
+        found = λ p. absurd (over-not-good (bytes []) p);
+      }

@@ -1,0 +1,7 @@
+pub mod Held
+pub mod Claim
+pub mod Still
+pub mod Never
+pub mod Order
+pub mod Refuted
+pub mod Theorems

@@ -1,0 +1,68 @@
+-- Document 01's paper bench: corrections as asked, those that stand ("applied") and those that wait ("undone"), and the state as the
+-- start with the standing ones made afresh. It sees no answer and no byte of the log, only the log's length.
+use Prim.Native.Nat.{ℕ}
+use mathlib.Core.List.{List, [], _∷_}
+use lib.ListN.{length}
+use Rattle.spectrum.specs.declared.Refusal.the-variants.{NothingToMove}
+use Rattle.spectrum.specs.declared.Answer.{Answer}
+use Rattle.spectrum.specs.declared.Answer.the-variants.{Accepted, Refused}
+use Rattle.spectrum.specs.State.{State}
+use Rattle.log_steps.specs.Steps.{capacity}
+use Rattle.corrections.specs.Corrections.{Correction, byteAt, pairTo, outTo, make, correctionAnswer}
+use Rattle.journal.specs.declared.Call.{Call}
+use Rattle.journal.specs.declared.Call.the-variants.{Byte, Pair, Out, Undo, Redo}
+
+-- the start with corrections made afresh, first to last: the head of the list is the last one
+abbrev pub made : State → List Correction → State
+made w [] = w
+made w (c ∷ cs) = make c (made w cs)
+
+-- the two lists: of the applied ones the head is the last, of the undone ones the head is the first to wait
+pub record History : Type 0 where
+  pub applied : List Correction
+  pub undone : List Correction
+
+pub record ModelResult : Type 0 where
+  pub answer : Answer
+  pub history : History
+
+-- "Correction: refused with the first number of its order that holds here. Else it joins the standing ones as last, and none waits."
+abbrev pub joins : Answer → Correction → History → ModelResult
+joins Accepted c b = record { answer = Accepted; history = record { applied = c ∷ b .applied; undone = [] } }
+joins (Refused why) c b = record { answer = Refused why; history = b }
+
+abbrev pub modelCorrect : State → ℕ → History → Correction → ModelResult
+modelCorrect start size b c = joins (correctionAnswer (capacity size) (made start (b .applied)) (length (b .applied)) c) c b
+
+-- "Undo: 27 if none stands, else the last standing one becomes the first to wait."
+abbrev pub modelUndo : List Correction → List Correction → ModelResult
+modelUndo [] us = record { answer = Refused NothingToMove; history = record { applied = []; undone = us } }
+modelUndo (c ∷ cs) us = record { answer = Accepted; history = record { applied = cs; undone = c ∷ us } }
+
+-- "Redo: 27 if none waits, else the first to wait becomes the last standing one."
+abbrev pub modelRedo : List Correction → List Correction → ModelResult
+modelRedo cs [] = record { answer = Refused NothingToMove; history = record { applied = cs; undone = [] } }
+modelRedo cs (u ∷ us) = record { answer = Accepted; history = record { applied = u ∷ cs; undone = us } }
+
+abbrev pub modelCall : State → ℕ → History → Call → ModelResult
+modelCall start size b (Byte address v) = modelCorrect start size b (byteAt address v)
+modelCall start size b (Pair p v) = modelCorrect start size b (pairTo p v)
+modelCall start size b (Out v) = modelCorrect start size b (outTo v)
+modelCall start size b Undo = modelUndo (b .applied) (b .undone)
+modelCall start size b Redo = modelRedo (b .applied) (b .undone)
+
+-- "empty at first"
+abbrev pub noHistory : History
+noHistory = record { applied = []; undone = [] }
+
+-- the history after a list of calls, and the answers
+abbrev pub modelAfter : State → ℕ → History → List Call → History
+modelAfter start size b [] = b
+modelAfter start size b (c ∷ cs) = modelAfter start size (modelCall start size b c .history) cs
+
+abbrev pub modelAnswers : State → ℕ → History → List Call → List Answer
+modelAnswers start size b [] = []
+modelAnswers start size b (c ∷ cs) = modelCall start size b c .answer ∷ modelAnswers start size (modelCall start size b c .history) cs
+
+abbrev pub modelHistory : State → ℕ → List Call → History
+modelHistory start size calls = modelAfter start size noHistory calls

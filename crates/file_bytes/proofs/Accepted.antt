@@ -1,0 +1,35 @@
+-- Where reading and writing over bytes are accepted, they are reading and writing by value.
+use Prim.Native.Nat.{ℕ}
+use mathlib.Core.Path.{_≡_, refl, ap}
+use mathlib.Core.Bool.{Bool, true, false}
+use mathlib.Core.List.{List}
+use native.Mathlib.Omega.{arith}
+use lib.ListN.{replicate}
+use lib.Dec.{eqb}
+use Rattle.slices.specs.Choose.{choose}
+use Rattle.spectrum.specs.declared.Machine.{Machine}
+use Rattle.spectrum.specs.declared.Answer.the-variants.{Accepted}
+use Rattle.spectrum.proofs.Numbers.{number-0}
+use Rattle.header_canonical.specs.declared.DecodedHeader.{DecodedHeader}
+use Rattle.header_canonical.specs.Canonical.{decodedOf, badHeader}
+use Rattle.z80read.specs.Read.{readOf}
+use Rattle.z80write.specs.Written.{writtenOf}
+use Rattle.file_bytes.specs.Files.{ReadBytes, readBytes, readOfBytes, writeBytes, writeDecoded, writeOfBytes}
+
+-- a read whose number is 0 was accepted, by value
+pub read-0 : (file : List ℕ) (n k : ℕ) → readOfBytes file n k .answer ≡ 0 → (readOf file n .answer ≡ Accepted) × (readOfBytes file n k ≡ readBytes (readOf file n))
+unfolding readOfBytes
+read-0 file n k = go (eqb k 86)
+  where
+    o : Bool → ReadBytes
+    o t = choose t (readBytes (readOf file n)) (record { answer = badHeader; area = replicate n 0; header = replicate k 0 })
+
+    go : (t : Bool) → o t .answer ≡ 0 → (readOf file n .answer ≡ Accepted) × (o t ≡ readBytes (readOf file n))
+    go true e = (number-0 _ e, refl)
+    go false e = absurd (omega arith)
+
+-- the write of a header that is taken as m
+pub write-decoded-as : (m : Machine) (head area : List ℕ) (n : ℕ) → decodedOf head ≡ record { canonical = true; machine = m }
+    → writeOfBytes head area n ≡ writeBytes (writtenOf m area n)
+unfolding writeOfBytes
+write-decoded-as m head area n e = ap (λ (t : DecodedHeader). writeDecoded t area n) e

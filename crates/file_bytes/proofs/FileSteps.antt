@@ -1,0 +1,47 @@
+-- Reading and writing over bytes, at each return of the code.
+use Prim.Native.Nat.{ℕ}
+use native.Mathlib.Omega.{arith}
+use mathlib.Core.Path.{_≡_, ap, _∙_}
+use mathlib.Core.Bool.{true, false}
+use mathlib.Core.List.{List, _++_, append-nil}
+use lib.ListN.{length, drop, replicate, drop-of-length-le}
+use borrow.Author.Tests.{eq-eqb, ne-eqb}
+use Rattle.spectrum.specs.declared.Answer.the-variants.{Refused}
+use Rattle.spectrum.specs.declared.Refusal.the-variants.{InvalidMachine}
+use Rattle.spectrum.specs.Numbers.{numberOf}
+use Rattle.header_canonical.specs.declared.DecodedHeader.{DecodedHeader}
+use Rattle.header_write.specs.Writing.{headerOf}
+use Rattle.header_canonical.specs.Canonical.{decodedOf}
+use Rattle.z80read.specs.declared.Opened.{Opened}
+use Rattle.z80read.specs.Read.{readOf, Reads}
+use Rattle.z80write.specs.declared.Written.{Written}
+use Rattle.z80write.specs.Written.{writtenOf, Writes}
+use Rattle.file_bytes.specs.Files.{readOfBytes, ReadsBytes, writeOfBytes, WritesBytes}
+
+module _ (file before head : List ℕ) (r : ℕ) where
+  pub read-other : (area zeros : List ℕ) → (length head ≡ 86 → ⊥) → area ≡ replicate (length before) 0 → zeros ≡ replicate (length head) 0 → r ≡ numberOf (Refused InvalidMachine)
+      → ReadsBytes (readOfBytes file (length before) (length head)) r area zeros
+  unfolding readOfBytes
+  read-other area zeros h a z e = rw (ne-eqb (length head) 86 h) (record { answer = e; area = a; header = z })
+
+  pub read-86 : (area made : List ℕ) (o : Opened) → length head ≡ 86 → Reads (readOf file (length before)) o area → made ≡ headerOf (o .machine) ++ drop 86 head
+      → r ≡ numberOf (o .answer) → ReadsBytes (readOfBytes file (length before) (length head)) r area made
+  unfolding readOfBytes
+  read-86 area made o h p q e =
+      rw (eq-eqb (length head) 86 h)
+      (record {
+        answer = e ∙ ap numberOf (p .leaves .answer);
+        area = p .leaves .memory;
+        header = q ∙ ap (λ (l : List ℕ). headerOf (o .machine) ++ l) (drop-of-length-le head {i = 86} (omega arith)) ∙ append-nil (headerOf (o .machine)) ∙ ap headerOf (p .leaves .machine);
+      })
+
+module _ (head area before : List ℕ) (r size : ℕ) (out : List ℕ) (t : DecodedHeader) (et : t ≡ decodedOf head) where
+  pub write-taken : (w : Written) → t .canonical ≡ true → Writes (writtenOf (t .machine) area (length before)) w out → size ≡ w .length → r ≡ numberOf (w .answer)
+      → WritesBytes (writeOfBytes head area (length before)) r size out
+  unfolding writeOfBytes
+  write-taken w c g s e = rw (← et, c) (record { answer = e ∙ ap numberOf (g .answer); size = s ∙ g .size; out = g .memory })
+
+  pub write-other : t .canonical ≡ false → out ≡ replicate (length before) 0 → size ≡ 0 → r ≡ numberOf (Refused InvalidMachine)
+      → WritesBytes (writeOfBytes head area (length before)) r size out
+  unfolding writeOfBytes
+  write-other c z s e = rw (← et, c) (record { answer = e; size = s; out = z })

@@ -1,0 +1,39 @@
+// Reading and writing over bytes: the machine crosses as the 86-byte header that the writer makes for it.
+use spectrum::Answer;
+use spectrum::Refusal;
+ghost use lib.ListN.{length};
+ghost use Rattle.file_bytes.specs.Files.{readOfBytes, ReadsBytes, writeOfBytes, WritesBytes};
+
+// A .Z80 file into an area of 131,072 bytes and a header of 86.
+pub fn read(file: &[u8], area: &mut [u8], head: &mut [u8]) -> u32
+    ensures { λ r. ⌜ ReadsBytes (readOfBytes (now (file .entry)) (length (now (area .entry))) (length (now (head .entry)))) r (now (area .exit)) (now (head .exit)) ⌝ }
+{
+    if head.len() != 86 {
+        slices::fill(area, 0);
+        slices::fill(head, 0);
+        return spectrum::number(Answer::Refused(Refusal::InvalidMachine));
+    }
+    let opened = z80read::read(file, area);
+    let m = opened.machine;
+    let answer = opened.answer;
+    m.typed();
+    header_write::write_header(m, head);
+    spectrum::number(answer)
+}
+
+// A header and its area into the one v3 file.
+pub fn write(head: &[u8], area: &[u8], out: &mut [u8], size: &mut u64) -> u32
+    ensures { λ r. ⌜ WritesBytes (writeOfBytes (now (head .entry)) (now (area .entry)) (length (now (out .entry)))) r (now (size .exit)) (now (out .exit)) ⌝ }
+{
+    let decoded = header_canonical::decode_header(head);
+    if decoded.canonical {
+        let m = decoded.machine;
+        let written = z80write::write(m, area, out);
+        let answer = written.answer;
+        *size = written.length as u64;
+        return spectrum::number(answer);
+    }
+    slices::fill(out, 0);
+    *size = 0;
+    spectrum::number(Answer::Refused(Refusal::InvalidMachine))
+}

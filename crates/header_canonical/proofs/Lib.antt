@@ -1,0 +1,4 @@
+pub mod Back
+pub mod HeadBack
+pub mod Canonical
+pub mod Theorems

@@ -1,0 +1,3 @@
+pub mod ReadSteps
+pub mod Valid
+pub mod Typed

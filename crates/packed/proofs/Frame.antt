@@ -1,0 +1,78 @@
+-- One frame for both loops: what was read stands for what is written, and the rest for the rest.
+use Prim.Native.Nat.{ℕ, zero, suc, _+_, _≤_, _<_}
+use native.Mathlib.Nat.{not-suc-le-zero, le-of-suc-le-suc, suc-le-suc-iff}
+use native.Mathlib.Omega.{arith}
+use mathlib.Core.Path.{_≡_, refl, sym, ap, _∙_}
+use mathlib.Core.List.{List, [], _∷_, _++_, append-assoc}
+use lib.ListN.{length, take, drop, length-drop}
+use lib.Seq.{drop-drop, length-take-le}
+use Rattle.packed.specs.Packed.{Found, malformed, bytes, before}
+use Rattle.packed.specs.Inner.{Copied}
+use Rattle.stores.specs.Stored.{Stored}
+use Rattle.stores.proofs.Written.{put-front}
+
+pub before-nil : (u : Found) → before [] u ≡ u
+before-nil malformed = refl
+before-nil (bytes ys) = refl
+
+pub before-before : (xs ys : List ℕ) (u : Found) → before xs (before ys u) ≡ before (xs ++ ys) u
+before-before xs ys malformed = refl
+before-before xs ys (bytes zs) = ap bytes (sym (append-assoc xs ys zs))
+
+-- what is at i stands for ws under f, and reading goes on at j
+pub record Next (f : List ℕ → Found) (s : List ℕ) (i : ℕ) (ws : List ℕ) (j : ℕ) : Type 0 where
+  pub step : f (drop i s) ≡ before ws (f (drop j s))
+  pub inside : j ≤ length s
+
+-- under f all stands for u: i bytes of s are read, and what they stand for is in d, which was d₀, up to o
+pub record Frame (f : List ℕ → Found) (u : Found) (s d₀ d : List ℕ) (i o : ℕ) : Type 0 where
+  pub reach : i ≤ length s
+  pub room : o ≤ length d
+  pub long : length d ≡ length d₀
+  pub same : u ≡ before (take o d) (f (drop i s))
+
+pub frame-from : (f : List ℕ → Found) (s d : List ℕ) (i o : ℕ) → i ≤ length s → o ≤ length d → Frame f (before (take o d) (f (drop i s))) s d d i o
+frame-from f s d i o h k = record { reach = h; room = k; long = refl; same = refl }
+
+pub frame-none : (f : List ℕ → Found) (s d : List ℕ) → Frame f (f s) s d d 0 0
+frame-none f s d = record { reach = omega arith; room = omega arith; long = refl; same = sym (before-nil (f s)) }
+
+module _ (f : List ℕ → Found) (u : Found) (s d₀ d : List ℕ) (i o : ℕ) (g : Frame f u s d₀ d i o) (d′ : List ℕ) where
+  pub onward : (ws : List ℕ) (j o′ : ℕ) → Next f s i ws j → Stored d o ws d′ → o + length ws ≡ o′ → o′ ≤ length d → Frame f u s d₀ d′ j o′
+  onward ws j o′ n p e h =
+      record {
+        reach = n .inside;
+        room = omega (arith, p .long);
+        long = p .long ∙ g .long;
+        same =
+            g .same ∙ ap (before (take o d)) (n .step) ∙ before-before (take o d) ws (f (drop j s))
+            ∙ ap (λ (z : List ℕ). before z (f (drop j s))) (sym (p .wrote) ∙ ap (λ (m : ℕ). take m d′) e);
+      }
+
+  -- bytes that stand for themselves
+  pub copied : (k : ℕ) → Copied f s i d o k d′ → o + k ≤ length d → Frame f u s d₀ d′ (i + k) (o + k)
+  copied k p h =
+      onward (take k (drop i s)) (i + k) (o + k) (record { step = p .step; inside = p .inside }) (p .stored)
+      (ap (λ (n : ℕ). o + n) (length-take-le k (drop i s) (simp length-drop (omega (arith, p .inside)))))
+      h
+
+-- bytes that stand for themselves one by one do together
+stretch : (f : List ℕ → Found) (plain : List ℕ → Type 0) → ((x : ℕ) (xs : List ℕ) → plain (x ∷ xs) → f (x ∷ xs) ≡ before (x ∷ []) (f xs))
+    → (l : List ℕ) (k : ℕ) → k ≤ length l → ((j : ℕ) → j < k → plain (drop j l)) → f l ≡ before (take k l) (f (drop k l))
+stretch f plain one l zero h n = sym (before-nil (f l))
+stretch f plain one [] (suc k) h n = absurd (not-suc-le-zero h)
+stretch f plain one (x ∷ xs) (suc k) h n =
+    one x xs (n 0 (omega arith))
+    ∙ ap (before (x ∷ [])) (stretch f plain one xs k (le-of-suc-le-suc h) (λ j g. n (suc j) (suc-le-suc-iff .1 g)))
+    ∙ before-before (x ∷ []) (take k xs) (f (drop k xs))
+
+-- of n bytes that were copied, the first k do
+pub copied-part : (f : List ℕ → Found) (plain : List ℕ → Type 0) → ((x : ℕ) (xs : List ℕ) → plain (x ∷ xs) → f (x ∷ xs) ≡ before (x ∷ []) (f xs))
+    → (s : List ℕ) (i : ℕ) (d : List ℕ) (o n k : ℕ) (d′ : List ℕ) → Stored d o (take n (drop i s)) d′ → k ≤ n → i + n ≤ length s → o + n ≤ length d
+    → ((j : ℕ) → j < k → plain (drop (i + j) s)) → Copied f s i d o k d′
+copied-part f plain one s i d o n k d′ p few hs hd c =
+    record {
+      inside = omega arith;
+      step = rw drop-drop at (stretch f plain one (drop i s) k (simp length-drop (omega arith)) (λ j h. rw drop-drop (c j h)));
+      stored = put-front s i d o n k d′ p few hs hd;
+    }

@@ -1,0 +1,25 @@
+-- What unpacking into a lent part of n bytes answers and leaves there: the promise of `unpack`.
+use Prim.Native.Nat.{ℕ}
+use mathlib.Core.Path.{_≡_}
+use mathlib.Core.List.{List}
+use lib.ListN.{length, replicate}
+use lib.Dec.{eqb}
+use Rattle.slices.specs.Choose.{choose}
+use Rattle.packed.specs.Packed.{Found, malformed, bytes}
+use Rattle.packed.specs.declared.Unpacked.{Unpacked}
+use Rattle.packed.specs.declared.Unpacked.the-variants.{Good, WrongLength, Malformed}
+
+-- malformed before the length is looked at, then the length
+abbrev pub answerOf : Found → ℕ → Unpacked
+answerOf malformed n = Malformed
+answerOf (bytes xs) n = choose (eqb (length xs) n) Good WrongLength
+
+-- the bytes where the answer is Good, and zeros otherwise
+abbrev pub leftBy : Found → ℕ → List ℕ
+leftBy malformed n = replicate n 0
+leftBy (bytes xs) n = choose (eqb (length xs) n) xs (replicate n 0)
+
+-- the answer r and the part d of n bytes, where u is what the data stand for
+pub record Unpacks (u : Found) (n : ℕ) (r : Unpacked) (d : List ℕ) : Type 0 where
+  pub answer : r ≡ answerOf u n
+  pub memory : d ≡ leftBy u n

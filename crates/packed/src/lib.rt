@@ -1,0 +1,15 @@
+// The run-length code of .Z80 files, over any bytes: document 01, "Packed data". It knows nothing of a Spectrum.
+// Here is what it means, and no function. What stands above relies on specs/Unpacking, specs/Packing and the laws of specs/Packed/Promise.
+
+// The answer of unpacking.
+pub enum Unpacked {
+    Good,
+    WrongLength,
+    Malformed,
+}
+
+// The answer of packing.
+pub enum Fit {
+    Length(usize),
+    TooShort,
+}

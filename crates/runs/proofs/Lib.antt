@@ -1,0 +1,3 @@
+pub mod RunLength
+pub mod RunBlocks
+pub mod RunCodes

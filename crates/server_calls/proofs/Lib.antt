@@ -1,0 +1,3 @@
+pub mod Still
+pub mod Made
+pub mod Theorems

@@ -1,3 +1,0 @@
-pub mod FileSteps
-pub mod CallSteps
-pub mod Accepted

@@ -1,0 +1,88 @@
+-- Where a code may begin in 16 bytes, and the bytes before it.
+use Prim.Native.Nat.{ℕ, _+_, _-_, _/_, _^_, _≤_, _<_}
+use native.Mathlib.Nat.{add-zero}
+use native.Mathlib.Omega.{arith}
+use mathlib.Core.Path.{_≡_, refl, sym, ap, _∙_}
+use mathlib.Core.Bool.{Bool, false, not, _&&_}
+use mathlib.Core.List.{List, _∷_}
+use lib.ListN.{length, getD, take, drop}
+use lib.Seq.{getD-drop}
+use lib.Dec.{eqb}
+use lib.Count.{trailingZeros}
+use borrow.Author.Tests.{eqb-false, eq-eqb}
+use Rattle.slices.specs.Put.{put}
+use Rattle.flags.specs.Weight.{weight}
+use Rattle.flags.specs.Places.{Flagged, Seen}
+use Rattle.flags.proofs.Weights.{never, neither}
+use Rattle.flags.proofs.Places.{seen-flags, seen-clear, seen-first, seen-after, ahead-none}
+use Rattle.packed.specs.Packed.{bytes, front, packed}
+use Rattle.packed.specs.Packed.Steps.{plain-code}
+use Rattle.packed.specs.Inner.{Copied, packedAs}
+use Rattle.runs.specs.Inner.{unlikeAt}
+use Rattle.stretches.specs.Inner.{mayCode, Stopped}
+use Rattle.stores.specs.Stored.{Stored}
+use Rattle.stores.proofs.Written.{at-block, put-16, put-more, put-front}
+use Rattle.runs.proofs.RunLength.{front-at}
+use Rattle.packed.proofs.Frame.{copied-part}
+
+-- where no code may begin, a byte packs to itself
+few : (x : ℕ) (xs : List ℕ) → mayCode x (getD xs 0 0) (getD xs 3 0) ≡ false → front x xs < 4
+few x xs c =
+    let p = neither (eqb x 237) (eqb x (getD xs 0 0) && eqb (getD xs 3 0) (getD xs 0 0)) c in
+    let q : 3 < front x xs → ⊥ = λ h.
+    (let a = front-at x xs 0 (omega arith) in
+    never (sym (rw (eq-eqb x (getD xs 0 0) (sym a), eq-eqb (getD xs 3 0) (getD xs 0 0) (front-at x xs 3 h ∙ sym a)) refl) ∙ p .1)) in
+    omega arith
+
+one : (x : ℕ) (xs : List ℕ) → mayCode x (getD xs 0 0) (getD xs 3 0) ≡ false → packedAs (x ∷ xs) ≡ bytes (x ∷ packed xs)
+one x xs c =
+    let p = neither (eqb x 237) (eqb x (getD xs 0 0) && eqb (getD xs 3 0) (getD xs 0 0)) c in
+    ap bytes (plain-code x xs (eqb-false x 237 (p .0)) (few x xs c))
+
+-- whether a code may begin at p
+abbrev mayCodeAt : List ℕ → ℕ → Bool
+mayCodeAt s p = mayCode (getD s p 0) (getD s (p + 1) 0) (getD s (p + 4) 0)
+
+-- 17 bytes are stored, and 16 looked at
+module _ (s : List ℕ) (i : ℕ) (d d₁ d₂ : List ℕ) (o : ℕ) (b n f : List ℕ) (cu cs : List Bool) (u m : ℕ) (hs : i + 20 ≤ length s) (hd : o + 17 ≤ length d)
+    (eb : b ≡ take 16 (drop i s)) (e₁ : d₁ ≡ put d o b) (en : n ≡ take 16 (drop (i + 1) s)) (gu : Flagged (λ j. not (eqb (getD b j 0) (getD n j 0))) cu 16) (eu : u ≡ weight cu)
+    (e₂ : d₂ ≡ put d₁ (o + 1) n) (ef : f ≡ take 16 (drop (i + 4) s)) (gs : Flagged (λ j. mayCode (getD b j 0) (getD n j 0) (getD f j 0)) cs 16) (em : m ≡ weight cs) where
+  stored : Stored d o (take 17 (drop i s)) d₂
+  stored =
+      let p = put-16 s i b d d₁ o (omega arith) (omega arith) eb e₁ in
+      put-more s i d d₁ d₂ o 1 16 (omega arith) (put-front s i d o 16 1 d₁ p (omega arith) (omega arith) (omega arith))
+      (put-16 s (i + 1) n d₁ d₂ (o + 1) (omega arith) (omega (arith, p .long)) en e₂)
+
+  next-at : (j : ℕ) → j < 16 → getD n j 0 ≡ getD s (i + j + 1) 0
+  next-at j h = at-block s n (i + 1) j en h ∙ ap (λ (x : ℕ). getD s x 0) (omega arith)
+
+  fourth-at : (j : ℕ) → j < 16 → getD f j 0 ≡ getD s (i + j + 4) 0
+  fourth-at j h = at-block s f (i + 4) j ef h ∙ ap (λ (x : ℕ). getD s x 0) (omega arith)
+
+  unlike : Seen (unlikeAt s) i 16 u
+  unlike = seen-flags (unlikeAt s) _ i cu u gu eu (λ j h. (λ z. not (eqb (at-block s b i j eb h z) (next-at j h z))))
+
+  stops : Seen (mayCodeAt s) i 16 m
+  stops =
+      seen-flags (mayCodeAt s) _ i cs m gs em
+      (λ j h. (λ z. mayCode (at-block s b i j eb h z) (next-at j h z) (fourth-at j h z)))
+
+  part : (k : ℕ) → k ≤ 16 → ((j : ℕ) → j < k → mayCodeAt s (i + j) ≡ false) → Copied packedAs s i d o k d₂
+  part k few c =
+      copied-part packedAs (λ (l : List ℕ). mayCode (getD l 0 0) (getD l 1 0) (getD l 4 0) ≡ false) one s i d o 17 k d₂ stored (omega arith) (omega arith) hd
+      (λ j h. rw (getD-drop (i + j) s 0 0, getD-drop (i + j) s 1 0, getD-drop (i + j) s 4 0, add-zero (i + j)) (c j h))
+
+  pub stopped-none : m ≡ 0 → Stopped s i d o 16 0 d₂
+  stopped-none z = record { few = omega arith; part = part 16 (omega arith) (seen-clear (mayCodeAt s) i 16 m stops z); unlike = ahead-none (unlikeAt s) (i + 16) }
+
+  pub stop-few : (m ≡ 0 → ⊥) → (k : ℕ) → k ≡ trailingZeros 64 m → k < 64
+  stop-few z k ek = let w = seen-first (mayCodeAt s) i 16 m stops (omega arith) z in omega (arith, w .inside)
+
+  pub stopped-at : (m ≡ 0 → ⊥) → (k v : ℕ) → k ≡ trailingZeros 64 m → v ≡ u / 2 ^ k → Stopped s i d o k v d₂
+  stopped-at z k v ek ev =
+      let w = seen-first (mayCodeAt s) i 16 m stops (omega arith) z in
+      record {
+        few = omega (arith, w .inside);
+        part = part k (omega (arith, w .inside)) (λ j h. w .before j (omega arith));
+        unlike = record { places = 16 - k; most = omega arith; seen = rw ev (seen-after (unlikeAt s) i 16 u unlike k) };
+      }
