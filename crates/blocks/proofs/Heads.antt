@@ -14,10 +14,10 @@ use Rattle.packed.specs.Packed.{Found, bytes, unpacked}
 use Rattle.packed.specs.Unpacking.{Unpacks}
 use Rattle.packed.specs.declared.Unpacked.{Unpacked}
 use Rattle.packed.specs.declared.Unpacked.the-variants.{Good, WrongLength, Malformed}
-use Rattle.spectrum.specs.declared.Model.{Model}
-use Rattle.spectrum.specs.declared.Refusal.{Refusal}
-use Rattle.spectrum.specs.declared.Refusal.the-variants.{BlockCut, BlockNumber, BlockTwice, MalformedData, UnpackedLength}
-use Rattle.spectrum.proofs.Places.{owned-small}
+use Rattle.pages.specs.declared.Model.{Model}
+use Rattle.numbers.specs.declared.Refusal.{Refusal}
+use Rattle.numbers.specs.declared.Refusal.the-variants.{BlockCut, BlockNumber, BlockTwice, MalformedData, UnpackedLength}
+use Rattle.pages.proofs.Places.{owned-small}
 use Rattle.blocks.specs.declared.Page.{Page}
 use Rattle.blocks.specs.declared.Page.the-variants.{At, NoPage}
 use Rattle.blocks.specs.declared.BlockHead.{BlockHead}

@@ -1,4 +1,4 @@
-mod Pages
+pub mod Pages
 pub mod Answers
 mod Heads
 pub mod Turns

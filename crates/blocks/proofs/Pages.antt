@@ -8,10 +8,10 @@ use lib.Dec.{eqb}
 use lib.ListN.{getD}
 use borrow.Author.Tests.{eqb-false, ne-eqb}
 use Rattle.slices.specs.Choose.{choose, both}
-use Rattle.spectrum.specs.declared.Model.{Model}
-use Rattle.spectrum.specs.declared.Model.the-variants.{K48, K128}
-use Rattle.spectrum.specs.declared.Slot.{Slot}
-use Rattle.spectrum.specs.Pages.{slots, pageAmong, owned}
+use Rattle.pages.specs.declared.Model.{Model}
+use Rattle.pages.specs.declared.Model.the-variants.{K48, K128}
+use Rattle.pages.specs.declared.Slot.{Slot}
+use Rattle.pages.specs.Pages.{slots, pageAmong, owned}
 use Rattle.blocks.specs.declared.Page.{Page}
 use Rattle.blocks.specs.declared.Page.the-variants.{At, NoPage}
 use Rattle.blocks.specs.Blocks.{pageNumbered, pageOf, allThere}

@@ -8,17 +8,17 @@ use lib.ListN.{length, set, drop, length-drop}
 use borrow.Author.Tests.{eq-eqb, ne-eqb}
 use Rattle.slices.specs.Choose.{choose}
 use Rattle.slices.specs.Put.{put}
-use Rattle.spectrum.specs.declared.Model.{Model}
-use Rattle.spectrum.specs.declared.Refusal.{Refusal}
-use Rattle.spectrum.specs.declared.Refusal.the-variants.{BlockMissing}
-use Rattle.spectrum.specs.declared.Answer.{Answer}
-use Rattle.spectrum.specs.declared.Answer.the-variants.{Accepted}
+use Rattle.pages.specs.declared.Model.{Model}
+use Rattle.numbers.specs.declared.Refusal.{Refusal}
+use Rattle.numbers.specs.declared.Refusal.the-variants.{BlockMissing}
+use Rattle.numbers.specs.declared.Answer.{Answer}
+use Rattle.numbers.specs.declared.Answer.the-variants.{Accepted}
 use Rattle.blocks.specs.declared.BlockStep.{BlockStep}
 use Rattle.blocks.specs.declared.BlockStep.the-variants.{Failed, Next}
-use Rattle.blocks.specs.Blocks.{allThere, Block, blockOf, Reading, unread, readAs, ReadsBody, afterBlock, finished, blocks, noneSeen, blocksInto}
+use Rattle.blocks.specs.Blocks.{allThere, Block, blockOf, BodyResult, bodyRefused, bodyRead, ReadsBody, afterBlock, finished, blocks, noneSeen, blocksInto}
 use Rattle.blocks.specs.Inner.{Refuses, Brings, StepSays}
 
-pub record Going (model : Model) (file : List ℕ) (all : Reading) (area : List ℕ) (seen : List Bool) (at : ℕ) : Type 0 where
+pub record Going (model : Model) (file : List ℕ) (all : BodyResult) (area : List ℕ) (seen : List Bool) (at : ℕ) : Type 0 where
   pub turns : ℕ
   pub enough : length file - at ≤ turns
   pub same : blocks model turns seen area (drop at file) ≡ all
@@ -52,7 +52,7 @@ module _ (model : Model) (file area after : List ℕ) (seen : List Bool) (at : �
   pub next-falls : at < length file → length file - next < length file - at
   next-falls h = let b = step-brings in omega arith
 
-module _ (model : Model) (file : List ℕ) (all : Reading) (area : List ℕ) (seen : List Bool) (at : ℕ) (g : Going model file all area seen at) where
+module _ (model : Model) (file : List ℕ) (all : BodyResult) (area : List ℕ) (seen : List Bool) (at : ℕ) (g : Going model file all area seen at) where
   -- with a byte left there is a turn left
   read-on : at < length file
       → (t : ℕ) × ((length file - at ≤ suc t)
@@ -80,18 +80,18 @@ module _ (model : Model) (file : List ℕ) (all : Reading) (area : List ℕ) (se
       }
 
   pub going-stop : (after clear : List ℕ) (step : BlockStep) (n : Refusal) (r : Answer) → at < length file → StepSays model seen file at area after step → step ≡ Failed n
-      → ReadsBody (unread n) r clear → ReadsBody all r clear
+      → ReadsBody (bodyRefused n) r clear → ReadsBody all r clear
   going-stop after clear step n r h s e t =
       let b : Refuses model seen file at n = subst (StepSays model seen file at area after) e s in
       let o = read-on h in
-      let q : unread n ≡ all = sym (ap (λ (x : Block). afterBlock x (λ page xs rest. blocks model (o .0) (set seen page true) (put area (page * 16384) xs) rest)) (b .block)) ∙ o .1 .1 in
-      subst (λ (x : Reading). ReadsBody x r clear) q t
+      let q : bodyRefused n ≡ all = sym (ap (λ (x : Block). afterBlock x (λ page xs rest. blocks model (o .0) (set seen page true) (put area (page * 16384) xs) rest)) (b .block)) ∙ o .1 .1 in
+      subst (λ (x : BodyResult). ReadsBody x r clear) q t
 
-  at-end : length file ≤ at → (b : Bool) → b ≡ allThere model seen → choose b (readAs area) (unread BlockMissing) ≡ all
-  at-end h b e = ap (λ (x : Bool). choose x (readAs area) (unread BlockMissing)) e ∙ sym (ended model (g .turns) seen area (drop at file) (length-drop at file ∙ omega arith)) ∙ g .same
+  at-end : length file ≤ at → (b : Bool) → b ≡ allThere model seen → choose b (bodyRead area) (bodyRefused BlockMissing) ≡ all
+  at-end h b e = ap (λ (x : Bool). choose x (bodyRead area) (bodyRefused BlockMissing)) e ∙ sym (ended model (g .turns) seen area (drop at file) (length-drop at file ∙ omega arith)) ∙ g .same
 
   pub going-all : (b : Bool) → length file ≤ at → b ≡ allThere model seen → b ≡ true → ReadsBody all Accepted area
-  going-all b h e t = subst (λ (x : Reading). ReadsBody x Accepted area) (rw t at (at-end h b e)) (refl, refl)
+  going-all b h e t = subst (λ (x : BodyResult). ReadsBody x Accepted area) (rw t at (at-end h b e)) (refl, refl)
 
-  pub going-missing : (b : Bool) (clear : List ℕ) (r : Answer) → length file ≤ at → b ≡ allThere model seen → b ≡ false → ReadsBody (unread BlockMissing) r clear → ReadsBody all r clear
-  going-missing b clear r h e t q = subst (λ (x : Reading). ReadsBody x r clear) (rw t at (at-end h b e)) q
+  pub going-missing : (b : Bool) (clear : List ℕ) (r : Answer) → length file ≤ at → b ≡ allThere model seen → b ≡ false → ReadsBody (bodyRefused BlockMissing) r clear → ReadsBody all r clear
+  going-missing b clear r h e t q = subst (λ (x : BodyResult). ReadsBody x r clear) (rw t at (at-end h b e)) q

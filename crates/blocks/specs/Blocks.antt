@@ -10,13 +10,13 @@ use Rattle.slices.specs.Put.{put}
 use Rattle.slices.specs.Blank.{blank}
 use Rattle.slices.specs.Bytes.{wordAt}
 use Rattle.packed.specs.Packed.{Found, malformed, bytes, unpacked}
-use Rattle.spectrum.specs.declared.Model.{Model}
-use Rattle.spectrum.specs.declared.Slot.{Slot}
-use Rattle.spectrum.specs.declared.Refusal.{Refusal}
-use Rattle.spectrum.specs.declared.Refusal.the-variants.{BlockCut, BlockNumber, BlockTwice, MalformedData, UnpackedLength, BlockMissing}
-use Rattle.spectrum.specs.Pages.{slots}
-use Rattle.spectrum.specs.declared.Answer.{Answer}
-use Rattle.spectrum.specs.declared.Answer.the-variants.{Accepted, Refused}
+use Rattle.pages.specs.declared.Model.{Model}
+use Rattle.pages.specs.declared.Slot.{Slot}
+use Rattle.numbers.specs.declared.Refusal.{Refusal}
+use Rattle.numbers.specs.declared.Refusal.the-variants.{BlockCut, BlockNumber, BlockTwice, MalformedData, UnpackedLength, BlockMissing}
+use Rattle.pages.specs.Pages.{slots}
+use Rattle.numbers.specs.declared.Answer.{Answer}
+use Rattle.numbers.specs.declared.Answer.the-variants.{Accepted, Refused}
 use Rattle.blocks.specs.declared.Page.{Page}
 use Rattle.blocks.specs.declared.Page.the-variants.{At, NoPage}
 
@@ -53,7 +53,7 @@ contents false body = unpacked body
 -- 11 malformed, then 12 wrong unpacked length
 abbrev pub pageFrom : Found → ℕ → List ℕ → Block
 pageFrom malformed page rest = refused MalformedData
-pageFrom (bytes xs) page rest = choose (choose (eqb (length xs) 16384) false true) (refused UnpackedLength) (brought page xs rest)
+pageFrom (bytes xs) page rest = choose (eqb (length xs) 16384) (brought page xs rest) (refused UnpackedLength)
 
 -- 9 a number not of this mode, then 10 twice
 abbrev pub onPage : Page → List Bool → Found → List ℕ → Block
@@ -70,25 +70,25 @@ blockOf model seen s =
     (drop (3 + sizeOf (wordAt s 0)) s)))
 
 -- what reading the body of a file comes to: a refusal, or the whole area
-pub data Reading : Type 0 where
-  unread : Refusal → Reading
-  readAs : List ℕ → Reading
+pub data BodyResult : Type 0 where
+  bodyRefused : Refusal → BodyResult
+  bodyRead : List ℕ → BodyResult
 
 -- what reading a body answers and leaves in the area. "A refused read gives .. an area all zero"
-abbrev pub ReadsBody : Reading → Answer → List ℕ → Type 0
-ReadsBody (unread why) r after = (r ≡ Refused why) × (after ≡ blank 131072)
-ReadsBody (readAs area) r after = (r ≡ Accepted) × (after ≡ area)
+abbrev pub ReadsBody : BodyResult → Answer → List ℕ → Type 0
+ReadsBody (bodyRefused why) r after = (r ≡ Refused why) × (after ≡ blank 131072)
+ReadsBody (bodyRead area) r after = (r ≡ Accepted) × (after ≡ area)
 
-abbrev pub afterBlock : Block → (ℕ → List ℕ → List ℕ → Reading) → Reading
-afterBlock (refused why) f = unread why
+abbrev pub afterBlock : Block → (ℕ → List ℕ → List ℕ → BodyResult) → BodyResult
+afterBlock (refused why) f = bodyRefused why
 afterBlock (brought page xs rest) f = f page xs rest
 
 -- "last 13"
-abbrev pub finished : Model → List Bool → List ℕ → Reading
-finished model seen area = choose (allThere model seen) (readAs area) (unread BlockMissing)
+abbrev pub finished : Model → List Bool → List ℕ → BodyResult
+finished model seen area = choose (allThere model seen) (bodyRead area) (bodyRefused BlockMissing)
 
 -- block after block to the end; a block has three bytes or more, so as many turns as bytes are enough
-unfoldable pub blocks : Model → ℕ → List Bool → List ℕ → List ℕ → Reading
+unfoldable pub blocks : Model → ℕ → List Bool → List ℕ → List ℕ → BodyResult
 blocks model zero seen area s = finished model seen area
 blocks model (suc turns) seen area s =
     choose (eqb (length s) 0)
@@ -99,5 +99,5 @@ abbrev pub noneSeen : List Bool
 noneSeen = replicate 8 false
 
 -- the blocks s read into an area
-unfoldable pub blocksInto : Model → List ℕ → List ℕ → Reading
+unfoldable pub blocksInto : Model → List ℕ → List ℕ → BodyResult
 blocksInto model area s = blocks model (length s) noneSeen area s

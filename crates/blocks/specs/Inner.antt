@@ -7,15 +7,15 @@ use lib.ListN.{length, take, drop}
 use Rattle.slices.specs.Put.{put}
 use Rattle.packed.specs.Unpacking.{answerOf, leftBy}
 use Rattle.packed.specs.declared.Unpacked.{Unpacked}
-use Rattle.spectrum.specs.declared.Model.{Model}
-use Rattle.spectrum.specs.declared.Refusal.{Refusal}
+use Rattle.pages.specs.declared.Model.{Model}
+use Rattle.numbers.specs.declared.Refusal.{Refusal}
 use Rattle.blocks.specs.declared.BlockHead.{BlockHead}
 use Rattle.blocks.specs.declared.BlockHead.the-variants.{Bad, Data}
 use Rattle.blocks.specs.declared.BlockStep.{BlockStep}
 use Rattle.blocks.specs.declared.BlockStep.the-variants.{Failed, Next}
 use Rattle.blocks.specs.Blocks.{refused, brought, contents, pageFrom, blockOf}
 
--- as `Unpacks` of the packing crate, with plain data too
+-- as `Unpacks` of `packed`, with plain data too
 pub record Fills (plain : Bool) (body before after : List ℕ) (r : Unpacked) : Type 0 where
   pub answer : r ≡ answerOf (contents plain body) (length before)
   pub memory : after ≡ leftBy (contents plain body) (length before)

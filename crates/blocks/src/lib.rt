@@ -1,12 +1,12 @@
 // The blocks of a v2 or v3 file read into the pages of a lent area. Above packing, through its promise alone.
+use numbers::Answer;
+use numbers::Refusal;
 use packed::Unpacked;
-use spectrum::Answer;
-use spectrum::Model;
-use spectrum::Refusal;
+use pages::Model;
 ghost use Prim.Native.Nat.{_+_, _*_, _<_};
 ghost use mathlib.Core.Path.{_≡_};
 ghost use lib.ListN.{length, drop};
-ghost use Rattle.blocks.specs.Blocks.{pageOf, allThere, sizeOf, blocksInto, unread, ReadsBody};
+ghost use Rattle.blocks.specs.Blocks.{pageOf, allThere, sizeOf, blocksInto, bodyRefused, ReadsBody};
 ghost use Rattle.blocks.specs.Inner.{Fills, HeadSays, StepSays};
 
 pub enum Page {
@@ -170,7 +170,7 @@ pub fn read_blocks(file: &[u8], from: usize, model: Model, area: &mut [u8]) -> A
 
 fn refused_area(area: &mut [u8], why: Refusal) -> Answer
     requires { ⌜ length (now area) ≡ 131072 ⌝ }
-    ensures { λ r. ⌜ ReadsBody (unread why) r (now (area .exit)) ⌝ }
+    ensures { λ r. ⌜ ReadsBody (bodyRefused why) r (now (area .exit)) ⌝ }
 {
     slices::fill(area, 0);
     Answer::Refused(why)

@@ -14,9 +14,9 @@ use Rattle.packed.specs.Packed.{Found, unpacked}
 use Rattle.packed.specs.Unpacking.{Unpacks}
 use Rattle.packed.specs.declared.Unpacked.{Unpacked}
 use Rattle.packed.specs.declared.Unpacked.the-variants.{Good, WrongLength, Malformed}
-use Rattle.spectrum.specs.declared.Refusal.the-variants.{MalformedData, UnpackedLength, EndMarker}
-use Rattle.spectrum.specs.declared.Answer.{Answer}
-use Rattle.spectrum.specs.declared.Answer.the-variants.{Accepted, Refused}
+use Rattle.numbers.specs.declared.Refusal.the-variants.{MalformedData, UnpackedLength, EndMarker}
+use Rattle.numbers.specs.declared.Answer.{Answer}
+use Rattle.numbers.specs.declared.Answer.the-variants.{Accepted, Refused}
 use Rattle.body_v1.specs.Body.{marked, spread, spreadFrom, bodyInto}
 use Rattle.blocks.specs.Blocks.{ReadsBody}
 use Rattle.blocks.proofs.Answers.{good-is, malformed-is, wrong-is}

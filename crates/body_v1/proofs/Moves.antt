@@ -29,8 +29,8 @@ use Rattle.packed.specs.Packed.{Found}
 use Rattle.packed.specs.Unpacking.{Unpacks}
 use Rattle.packed.specs.declared.Unpacked.{Unpacked}
 use Rattle.packed.specs.declared.Unpacked.the-variants.{Good, WrongLength, Malformed}
-use Rattle.spectrum.specs.declared.Refusal.the-variants.{MalformedData, UnpackedLength}
-use Rattle.spectrum.specs.declared.Answer.the-variants.{Accepted, Refused}
+use Rattle.numbers.specs.declared.Refusal.the-variants.{MalformedData, UnpackedLength}
+use Rattle.numbers.specs.declared.Answer.the-variants.{Accepted, Refused}
 use Rattle.body_v1.specs.Body.{spread, spreadFrom}
 use Rattle.body_v1.specs.Inner.{pageMoved, topCleared, settled}
 use Rattle.blocks.specs.Blocks.{ReadsBody}

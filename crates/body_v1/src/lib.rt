@@ -1,7 +1,7 @@
 // The one stream of a v1 file read into the pages of a lent area. Above packing, through its promise alone.
+use numbers::Answer;
+use numbers::Refusal;
 use packed::Unpacked;
-use spectrum::Answer;
-use spectrum::Refusal;
 ghost use Prim.Native.Nat.{_+_, _≤_};
 ghost use mathlib.Core.Path.{_≡_};
 ghost use lib.ListN.{length, take, drop};

@@ -57,7 +57,7 @@ typed-at b h i = go (eqb (getD b (i * 4) 0) 0) (eqb (getD b (i * 4) 0) 1) (eqb (
     go : (p q r s : Bool)
         → TypedCall (choose p (Byte w (getD b (i * 4 + 3) 0)) (choose q (Pair (getD b (i * 4 + 3) 0) w) (choose r (Out (getD b (i * 4 + 1) 0)) (choose s Undo Redo))))
     go true q r s = (ws, h (i * 4 + 3))
-    go false true r s = (h (i * 4 + 3), ws)
+    go false true r s = ws
     go false false true s = h (i * 4 + 1)
     go false false false true = tt
     go false false false false = tt

@@ -7,6 +7,7 @@ use lib.ListN.{length, getD}
 use Rattle.journal.specs.declared.Call.{Call}
 use Rattle.journal.specs.declared.Call.the-variants.{Byte, Pair, Out, Undo, Redo}
 use Rattle.claim.specs.Claim.{TypedCalls}
+use Rattle.call_list.specs.Theorems.{pairNumbers}
 use Rattle.call_list.specs.CallList.{callAt, encode, callsFrom, callCount, callsIn}
 
 getD-four : (w x y z : ℕ) (b : List ℕ) (n k : ℕ) → n ≡ suc (suc (suc (suc k))) → getD (w ∷ x ∷ y ∷ z ∷ b) n 0 ≡ getD b k 0
@@ -58,10 +59,10 @@ four-bytes w x y z b hw hx hy hz h (suc (suc zero)) = hy
 four-bytes w x y z b hw hx hy hz h (suc (suc (suc zero))) = hz
 four-bytes w x y z b hw hx hy hz h (suc (suc (suc (suc i)))) = h i
 
-pub encode-bytes : (cs : List Call) → TypedCalls cs → (i : ℕ) → getD (encode cs) i 0 < 256
-encode-bytes [] t = λ i. omega arith
-encode-bytes (Byte a v ∷ cs) t = let w = t .0 .0 in four-bytes _ _ _ _ (encode cs) (omega arith) (omega arith) (omega arith) (t .0 .1) (encode-bytes cs (t .1))
-encode-bytes (Pair k v ∷ cs) t = let w = t .0 .1 in four-bytes _ _ _ _ (encode cs) (omega arith) (omega arith) (omega arith) (t .0 .0) (encode-bytes cs (t .1))
-encode-bytes (Out v ∷ cs) t = four-bytes _ _ _ _ (encode cs) (omega arith) (omega arith) (omega arith) (omega arith) (encode-bytes cs (t .1))
-encode-bytes (Undo ∷ cs) t = four-bytes _ _ _ _ (encode cs) (omega arith) (omega arith) (omega arith) (omega arith) (encode-bytes cs (t .1))
-encode-bytes (Redo ∷ cs) t = four-bytes _ _ _ _ (encode cs) (omega arith) (omega arith) (omega arith) (omega arith) (encode-bytes cs (t .1))
+pub encode-bytes : (cs : List Call) → TypedCalls cs → ((k : ℕ) → getD (pairNumbers cs) k 0 < 256) → (i : ℕ) → getD (encode cs) i 0 < 256
+encode-bytes [] t h = λ i. omega arith
+encode-bytes (Byte a v ∷ cs) t h = let w = t .0 .0 in four-bytes _ _ _ _ (encode cs) (omega arith) (omega arith) (omega arith) (t .0 .1) (encode-bytes cs (t .1) h)
+encode-bytes (Pair p v ∷ cs) t h = let w = t .0 in four-bytes _ _ _ _ (encode cs) (omega arith) (omega arith) (omega arith) (h zero) (encode-bytes cs (t .1) (λ k. h (suc k)))
+encode-bytes (Out v ∷ cs) t h = four-bytes _ _ _ _ (encode cs) (omega arith) (t .0) (omega arith) (omega arith) (encode-bytes cs (t .1) h)
+encode-bytes (Undo ∷ cs) t h = four-bytes _ _ _ _ (encode cs) (omega arith) (omega arith) (omega arith) (omega arith) (encode-bytes cs (t .1) h)
+encode-bytes (Redo ∷ cs) t h = four-bytes _ _ _ _ (encode cs) (omega arith) (omega arith) (omega arith) (omega arith) (encode-bytes cs (t .1) h)

@@ -10,18 +10,18 @@ use lib.ListN.{length, set, getD, length-set}
 use lib.Seq.{getD-set-same, set-set, set-getD}
 use Rattle.slices.proofs.Chosen.{not-flip}
 use Rattle.spectrum.specs.declared.Machine.{Machine}
-use Rattle.spectrum.specs.declared.Model.{Model}
-use Rattle.spectrum.specs.declared.Model.the-variants.{K48, K128}
-use Rattle.spectrum.specs.declared.Place.{Place}
-use Rattle.spectrum.specs.declared.Place.the-variants.{Rom, Ram}
-use Rattle.spectrum.specs.declared.Refusal.{Refusal}
-use Rattle.spectrum.specs.declared.Refusal.the-variants.{RomAddress, OutOn48k, PagingLocked, JournalFull, PairNumber}
-use Rattle.spectrum.specs.declared.Answer.{Answer}
-use Rattle.spectrum.specs.declared.Answer.the-variants.{Accepted, Refused}
+use Rattle.pages.specs.declared.Model.{Model}
+use Rattle.pages.specs.declared.Model.the-variants.{K48, K128}
+use Rattle.pages.specs.declared.Place.{Place}
+use Rattle.pages.specs.declared.Place.the-variants.{Rom, Ram}
+use Rattle.numbers.specs.declared.Refusal.{Refusal}
+use Rattle.numbers.specs.declared.Refusal.the-variants.{RomAddress, OutOn48k, PagingLocked, JournalFull, PairNumber}
+use Rattle.numbers.specs.declared.Answer.{Answer}
+use Rattle.numbers.specs.declared.Answer.the-variants.{Accepted, Refused}
 use Rattle.spectrum.specs.Machine.{changed, withPair, withOut}
 use Rattle.spectrum.specs.State.{State}
 use Rattle.spectrum.specs.Valid.{validOf, quietOf}
-use Rattle.spectrum.proofs.Numbers.{refused-not, refuse-not}
+use Rattle.numbers.proofs.Numbers.{refused-not, refuse-not}
 use Rattle.log_steps.specs.declared.Step.{Step}
 use Rattle.log_steps.specs.Steps.{putStep, stepAt, present, placed, intact}
 use Rattle.log_steps.proofs.Written.{stepAt-same}
@@ -32,7 +32,7 @@ use Rattle.claim.specs.Claim.{ValidStart}
 -- as wide as the types of the code have it
 abbrev pub TypedCorrection : Correction → Type 0
 TypedCorrection (byteAt address v) = (address < 65536) × (v < 256)
-TypedCorrection (pairTo p v) = (p < 256) × (v < 65536)
+TypedCorrection (pairTo p v) = v < 65536
 TypedCorrection (outTo v) = v < 256
 
 -- the step at k is s, it leads from the state w to w′, and it can be taken back and made again
@@ -199,7 +199,7 @@ held (byteAt a v) w log cap k ok wide e fits = go (placeIn (w .machine) a) refl 
         → Holds (putStep log k (byteStep p v (w .memory))) k (byteStep p v (w .memory)) w (record { machine = w .machine; memory = store p v (w .memory) })
     go Rom q h = absurd (refused-not RomAddress h)
     go (Ram page offset) q h = byte-holds v w log k page offset ok (wide .1) (place-inside (w .machine .model) (w .machine .out7ffd) a page offset (wide .0) q) fits
-held (pairTo p v) w log cap k ok wide e fits = pair-holds p v w log k ok (wide .1) (ltb-false 11 p (refuse-not (ltb 11 p) PairNumber (room cap k) e .0)) fits
+held (pairTo p v) w log cap k ok wide e fits = pair-holds p v w log k ok wide (ltb-false 11 p (refuse-not (ltb 11 p) PairNumber (room cap k) e .0)) fits
 held (outTo v) w log cap k ok wide e fits = out-holds v w log k ok wide (out-128 (w .machine .model) (w .machine .out7ffd) (room cap k) e .0) fits
 
 pub answer-room : (cap : ℕ) (w : State) (n : ℕ) (c : Correction) → correctionAnswer cap w n c ≡ Accepted → n < cap

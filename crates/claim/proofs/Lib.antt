@@ -3,5 +3,6 @@ pub mod Claim
 pub mod Still
 pub mod Never
 pub mod Order
+pub mod Opens
 pub mod Refuted
 pub mod Theorems

@@ -6,16 +6,16 @@ use mathlib.Core.List.{List, [], _∷_}
 use native.Mathlib.Omega.{arith}
 use lib.Dec.{ltb, eqb}
 use lib.ListN.{length}
-use Rattle.spectrum.specs.declared.Model.{Model}
-use Rattle.spectrum.specs.declared.Model.the-variants.{K48, K128}
-use Rattle.spectrum.specs.declared.Place.{Place}
-use Rattle.spectrum.specs.declared.Place.the-variants.{Rom, Ram}
-use Rattle.spectrum.specs.declared.Refusal.{Refusal}
-use Rattle.spectrum.specs.declared.Refusal.the-variants.{PagingLocked, JournalFull, PairNumber}
-use Rattle.spectrum.specs.declared.Answer.{Answer}
-use Rattle.spectrum.specs.declared.Answer.the-variants.{Accepted, Refused}
+use Rattle.pages.specs.declared.Model.{Model}
+use Rattle.pages.specs.declared.Model.the-variants.{K48, K128}
+use Rattle.pages.specs.declared.Place.{Place}
+use Rattle.pages.specs.declared.Place.the-variants.{Rom, Ram}
+use Rattle.numbers.specs.declared.Refusal.{Refusal}
+use Rattle.numbers.specs.declared.Refusal.the-variants.{PagingLocked, JournalFull, PairNumber}
+use Rattle.numbers.specs.declared.Answer.{Answer}
+use Rattle.numbers.specs.declared.Answer.the-variants.{Accepted, Refused}
 use Rattle.spectrum.specs.State.{State}
-use Rattle.spectrum.specs.Numbers.{numberOf, refusalNumber, refuse}
+use Rattle.numbers.specs.Numbers.{numberOf, refusalNumber, refuse}
 use Rattle.log_steps.specs.Steps.{capacity}
 use Rattle.log_steps.specs.Session.{started}
 use Rattle.corrections.specs.Corrections.{Correction, byteAt, pairTo, outTo, placeIn, romFirst, outFirst, room, correctionAnswer}

@@ -4,6 +4,7 @@ use Rattle.claim.proofs.Claim.{claim, start-after}
 use Rattle.claim.proofs.Still.{still}
 use Rattle.claim.proofs.Never.{never-28-29}
 use Rattle.claim.proofs.Order.{first-to-last}
+use Rattle.claim.proofs.Opens.{open-start}
 use Rattle.claim.proofs.Refuted.{refuted-refuses, refuted-alters-nothing, refuted-undoes-once, refuted-counts, refuted-redo}
 
 pub theorems : Theorems
@@ -13,6 +14,7 @@ theorems =
       first-to-last = first-to-last;
       still = still;
       start-after = start-after;
+      open-start = open-start;
       never-28-29 = never-28-29;
       refuted-refuses = refuted-refuses;
       refuted-alters-nothing = refuted-alters-nothing;

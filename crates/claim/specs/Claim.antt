@@ -4,7 +4,7 @@ use mathlib.Core.Path.{_≡_}
 use mathlib.Core.Bool.{true}
 use mathlib.Core.List.{List, [], _∷_}
 use lib.ListN.{length, getD}
-use Rattle.spectrum.specs.declared.Answer.{Answer}
+use Rattle.numbers.specs.declared.Answer.{Answer}
 use Rattle.spectrum.specs.State.{State}
 use Rattle.spectrum.specs.Valid.{Typed, validOf}
 use Rattle.journal.specs.declared.Call.{Call}
@@ -19,10 +19,10 @@ pub record ValidStart (w : State) : Type 0 where
   pub typed : Typed (w .machine)
   pub bytes : (i : ℕ) → getD (w .memory) i 0 < 256
 
--- "What is asked is as wide as what it names", as the types of the code have it
+-- "What is asked is as wide as what it names .. so only a pair's number can be out of range."
 abbrev pub TypedCall : Call → Type 0
 TypedCall (Byte address v) = (address < 65536) × (v < 256)
-TypedCall (Pair p v) = (p < 256) × (v < 65536)
+TypedCall (Pair p v) = v < 65536
 TypedCall (Out v) = v < 256
 TypedCall Undo = Unit {0}
 TypedCall Redo = Unit {0}

@@ -2,15 +2,16 @@
 use Prim.Native.Nat.{ℕ}
 use mathlib.Core.Path.{_≡_}
 use mathlib.Core.List.{List, [], _∷_, reverse}
-use Rattle.spectrum.specs.declared.Refusal.{Refusal}
-use Rattle.spectrum.specs.declared.Answer.{Answer}
-use Rattle.spectrum.specs.declared.Answer.the-variants.{Refused}
+use Rattle.numbers.specs.declared.Refusal.{Refusal}
+use Rattle.numbers.specs.declared.Answer.{Answer}
+use Rattle.numbers.specs.declared.Answer.the-variants.{Accepted, Refused}
 use Rattle.spectrum.specs.State.{State}
-use Rattle.spectrum.specs.Numbers.{numberOf}
+use Rattle.numbers.specs.Numbers.{numberOf}
+use Rattle.z80file.specs.Clean.{ReadGives}
 use Rattle.log_steps.specs.Session.{Session, started}
 use Rattle.corrections.specs.Corrections.{Correction, make}
 use Rattle.journal.specs.declared.Call.{Call}
-use Rattle.journal.specs.Journal.{journalCall}
+use Rattle.journal.specs.Journal.{journalCall, openOf}
 use Rattle.claim.specs.History.{made}
 use Rattle.claim.specs.Claim.{ValidStart, TypedCalls, runAfter, runAnswers, ClaimOf}
 use Rattle.claim.specs.Wrong.{alwaysRefuses, altersNothing, undoesOnce, inventsCounts, redoesNothing}
@@ -35,6 +36,9 @@ pub record Theorems : Type 0 where
   -- what a list of calls leaves is valid and a start again
   pub start-after : (start : State) (log : List ℕ) → ValidStart start → (calls : List Call) → TypedCalls calls
       → ValidStart (runAfter journalCall (started start log) calls .state)
+  -- "An accepted read of a Spectrum file gives a valid machine .. so an opened file is a start": a valid machine, a clean memory of 131,072 bytes
+  pub open-start : (file : List ℕ) (n size : ℕ) → openOf file n size .answer ≡ Accepted
+      → ReadGives (openOf file n size .session .state .machine) (openOf file n size .session .state .memory) n
   -- "28 and 29 never come in such a run"
   pub never-28-29 : (start : State) (log : List ℕ) → ValidStart start → (calls : List Call) → TypedCalls calls
       → NoneIs28Or29 (runAnswers journalCall (started start log) calls)

@@ -2,8 +2,8 @@
 use Prim.Native.Nat.{ℕ, _+_, _-_}
 use lib.Dec.{eqb}
 use Rattle.slices.specs.Choose.{choose}
-use Rattle.spectrum.specs.declared.Refusal.the-variants.{JournalFull}
-use Rattle.spectrum.specs.declared.Answer.the-variants.{Accepted}
+use Rattle.numbers.specs.declared.Refusal.the-variants.{JournalFull}
+use Rattle.numbers.specs.declared.Answer.the-variants.{Accepted}
 use Rattle.journal.specs.declared.Call.{Call}
 use Rattle.journal.specs.declared.Call.the-variants.{Byte, Pair, Out, Undo, Redo}
 use Rattle.log_steps.specs.Session.{Session, CallResult, unchanged}

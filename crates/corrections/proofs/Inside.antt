@@ -6,11 +6,11 @@ use native.Mathlib.Omega.{arith}
 use borrow.Author.Tests.{ltb-true}
 use lib.Dec.{ltb}
 use Rattle.slices.specs.Choose.{choose}
-use Rattle.spectrum.specs.declared.Model.{Model}
-use Rattle.spectrum.specs.declared.Model.the-variants.{K48, K128}
-use Rattle.spectrum.specs.declared.Place.the-variants.{Rom, Ram}
-use Rattle.spectrum.specs.Pages.{owned, topPage, placeOf}
-use Rattle.spectrum.proofs.Places.{owned-all}
+use Rattle.pages.specs.declared.Model.{Model}
+use Rattle.pages.specs.declared.Model.the-variants.{K48, K128}
+use Rattle.pages.specs.declared.Place.the-variants.{Rom, Ram}
+use Rattle.pages.specs.Pages.{owned, topPage, placeOf}
+use Rattle.pages.proofs.Places.{owned-all}
 
 pub record Inside (model : Model) (page offset : ℕ) : Type 0 where
   pub mine : owned model page ≡ true

@@ -5,16 +5,16 @@ use mathlib.Core.List.{List}
 use borrow.Author.Tests.{lt-ltb, le-ltb, eq-eqb, ne-eqb}
 use lib.ListN.{length, set, getD}
 use Rattle.spectrum.specs.declared.Machine.{Machine}
-use Rattle.spectrum.specs.declared.Model.{Model}
-use Rattle.spectrum.specs.declared.Model.the-variants.{K48, K128}
-use Rattle.spectrum.specs.declared.Place.{Place}
-use Rattle.spectrum.specs.declared.Place.the-variants.{Rom, Ram}
-use Rattle.spectrum.specs.declared.Refusal.{Refusal}
-use Rattle.spectrum.specs.declared.Refusal.the-variants.{RomAddress, OutOn48k, PagingLocked, JournalFull, PairNumber}
-use Rattle.spectrum.specs.declared.Answer.{Answer}
-use Rattle.spectrum.specs.declared.Answer.the-variants.{Accepted, Refused}
+use Rattle.pages.specs.declared.Model.{Model}
+use Rattle.pages.specs.declared.Model.the-variants.{K48, K128}
+use Rattle.pages.specs.declared.Place.{Place}
+use Rattle.pages.specs.declared.Place.the-variants.{Rom, Ram}
+use Rattle.numbers.specs.declared.Refusal.{Refusal}
+use Rattle.numbers.specs.declared.Refusal.the-variants.{RomAddress, OutOn48k, PagingLocked, JournalFull, PairNumber}
+use Rattle.numbers.specs.declared.Answer.{Answer}
+use Rattle.numbers.specs.declared.Answer.the-variants.{Accepted, Refused}
 use Rattle.spectrum.specs.Machine.{withPair, withOut}
-use Rattle.spectrum.specs.Pages.{placeOf}
+use Rattle.pages.specs.Pages.{placeOf}
 use Rattle.log_steps.specs.declared.Step.{Step}
 use Rattle.log_steps.specs.declared.Counts.{Counts}
 use Rattle.log_steps.specs.declared.Done.{Done}

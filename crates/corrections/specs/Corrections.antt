@@ -5,17 +5,17 @@ use mathlib.Core.Bool.{not}
 use lib.ListN.{length, getD, set}
 use lib.Dec.{ltb, eqb}
 use Rattle.spectrum.specs.declared.Machine.{Machine}
-use Rattle.spectrum.specs.declared.Model.{Model}
-use Rattle.spectrum.specs.declared.Model.the-variants.{K48, K128}
-use Rattle.spectrum.specs.declared.Place.{Place}
-use Rattle.spectrum.specs.declared.Place.the-variants.{Rom, Ram}
-use Rattle.spectrum.specs.declared.Refusal.the-variants.{RomAddress, OutOn48k, PagingLocked, JournalFull, PairNumber}
-use Rattle.spectrum.specs.declared.Answer.{Answer}
-use Rattle.spectrum.specs.declared.Answer.the-variants.{Accepted, Refused}
+use Rattle.pages.specs.declared.Model.{Model}
+use Rattle.pages.specs.declared.Model.the-variants.{K48, K128}
+use Rattle.pages.specs.declared.Place.{Place}
+use Rattle.pages.specs.declared.Place.the-variants.{Rom, Ram}
+use Rattle.numbers.specs.declared.Refusal.the-variants.{RomAddress, OutOn48k, PagingLocked, JournalFull, PairNumber}
+use Rattle.numbers.specs.declared.Answer.{Answer}
+use Rattle.numbers.specs.declared.Answer.the-variants.{Accepted, Refused}
 use Rattle.spectrum.specs.Machine.{withPair, withOut}
 use Rattle.spectrum.specs.State.{State}
-use Rattle.spectrum.specs.Pages.{placeOf}
-use Rattle.spectrum.specs.Numbers.{refuse}
+use Rattle.pages.specs.Pages.{placeOf}
+use Rattle.numbers.specs.Numbers.{refuse}
 use Rattle.log_steps.specs.declared.Step.{Step}
 use Rattle.log_steps.specs.Steps.{capacity, putStep}
 use Rattle.log_steps.specs.Session.{Session, CallResult, ifAccepted}

@@ -1,7 +1,7 @@
 -- Contracts of functions that only proved code calls: a reviewer may skip this file.
 use Prim.Native.Nat.{ℕ, _+_}
-use Rattle.spectrum.specs.declared.Place.the-variants.{Ram}
-use Rattle.spectrum.specs.declared.Answer.the-variants.{Accepted}
+use Rattle.pages.specs.declared.Place.the-variants.{Ram}
+use Rattle.numbers.specs.declared.Answer.the-variants.{Accepted}
 use Rattle.log_steps.specs.Steps.{putStep}
 use Rattle.log_steps.specs.Session.{Session, CallResult}
 use Rattle.corrections.specs.Corrections.{store, byteStep}

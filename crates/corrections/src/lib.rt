@@ -2,14 +2,14 @@
 use log_steps::Counts;
 use log_steps::Done;
 use log_steps::Step;
+use numbers::Refusal;
+use pages::Model;
+use pages::Place;
 use spectrum::Machine;
-use spectrum::Model;
-use spectrum::Place;
-use spectrum::Refusal;
 ghost use Prim.Native.Nat.{_+_, _*_, _≤_, _<_};
 ghost use mathlib.Core.Path.{_≡_};
 ghost use lib.ListN.{length};
-ghost use Rattle.spectrum.specs.declared.Answer.the-variants.{Accepted};
+ghost use Rattle.numbers.specs.declared.Answer.the-variants.{Accepted};
 ghost use Rattle.log_steps.specs.Steps.{putStep};
 ghost use Rattle.log_steps.specs.Session.{sessionOn, resultOf};
 ghost use Rattle.log_steps.specs.Inner.{Ready};

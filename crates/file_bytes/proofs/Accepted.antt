@@ -8,28 +8,28 @@ use lib.ListN.{replicate}
 use lib.Dec.{eqb}
 use Rattle.slices.specs.Choose.{choose}
 use Rattle.spectrum.specs.declared.Machine.{Machine}
-use Rattle.spectrum.specs.declared.Answer.the-variants.{Accepted}
-use Rattle.spectrum.proofs.Numbers.{number-0}
+use Rattle.numbers.specs.declared.Answer.the-variants.{Accepted}
+use Rattle.numbers.proofs.Numbers.{number-0}
 use Rattle.header_canonical.specs.declared.DecodedHeader.{DecodedHeader}
 use Rattle.header_canonical.specs.Canonical.{decodedOf, badHeader}
 use Rattle.z80read.specs.Read.{readOf}
 use Rattle.z80write.specs.Written.{writtenOf}
-use Rattle.file_bytes.specs.Files.{ReadBytes, readBytes, readOfBytes, writeBytes, writeDecoded, writeOfBytes}
+use Rattle.file_bytes.specs.Files.{ReadBytes, readInBytes, readOfBytes, writtenInBytes, writeDecoded, writeOfBytes}
 
 -- a read whose number is 0 was accepted, by value
-pub read-0 : (file : List ℕ) (n k : ℕ) → readOfBytes file n k .answer ≡ 0 → (readOf file n .answer ≡ Accepted) × (readOfBytes file n k ≡ readBytes (readOf file n))
+pub read-0 : (file : List ℕ) (n k : ℕ) → readOfBytes file n k .answer ≡ 0 → (readOf file n .answer ≡ Accepted) × (readOfBytes file n k ≡ readInBytes (readOf file n))
 unfolding readOfBytes
 read-0 file n k = go (eqb k 86)
   where
     o : Bool → ReadBytes
-    o t = choose t (readBytes (readOf file n)) (record { answer = badHeader; area = replicate n 0; header = replicate k 0 })
+    o t = choose t (readInBytes (readOf file n)) (record { answer = badHeader; area = replicate n 0; header = replicate k 0 })
 
-    go : (t : Bool) → o t .answer ≡ 0 → (readOf file n .answer ≡ Accepted) × (o t ≡ readBytes (readOf file n))
+    go : (t : Bool) → o t .answer ≡ 0 → (readOf file n .answer ≡ Accepted) × (o t ≡ readInBytes (readOf file n))
     go true e = (number-0 _ e, refl)
     go false e = absurd (omega arith)
 
 -- the write of a header that is taken as m
 pub write-decoded-as : (m : Machine) (head area : List ℕ) (n : ℕ) → decodedOf head ≡ record { canonical = true; machine = m }
-    → writeOfBytes head area n ≡ writeBytes (writtenOf m area n)
+    → writeOfBytes head area n ≡ writtenInBytes (writtenOf m area n)
 unfolding writeOfBytes
 write-decoded-as m head area n e = ap (λ (t : DecodedHeader). writeDecoded t area n) e

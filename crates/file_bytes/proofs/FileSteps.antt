@@ -6,9 +6,9 @@ use mathlib.Core.Bool.{true, false}
 use mathlib.Core.List.{List, _++_, append-nil}
 use lib.ListN.{length, drop, replicate, drop-of-length-le}
 use borrow.Author.Tests.{eq-eqb, ne-eqb}
-use Rattle.spectrum.specs.declared.Answer.the-variants.{Refused}
-use Rattle.spectrum.specs.declared.Refusal.the-variants.{InvalidMachine}
-use Rattle.spectrum.specs.Numbers.{numberOf}
+use Rattle.numbers.specs.declared.Answer.the-variants.{Refused}
+use Rattle.numbers.specs.declared.Refusal.the-variants.{InvalidMachine}
+use Rattle.numbers.specs.Numbers.{numberOf}
 use Rattle.header_canonical.specs.declared.DecodedHeader.{DecodedHeader}
 use Rattle.header_write.specs.Writing.{headerOf}
 use Rattle.header_canonical.specs.Canonical.{decodedOf}

@@ -5,7 +5,7 @@ use mathlib.Core.List.{List}
 use lib.ListN.{replicate}
 use lib.Dec.{eqb}
 use Rattle.slices.specs.Choose.{choose}
-use Rattle.spectrum.specs.Numbers.{numberOf}
+use Rattle.numbers.specs.Numbers.{numberOf}
 use Rattle.header_canonical.specs.declared.DecodedHeader.{DecodedHeader}
 use Rattle.header_write.specs.Writing.{headerOf}
 use Rattle.header_canonical.specs.Canonical.{decodedOf, badHeader}
@@ -19,13 +19,13 @@ pub record ReadBytes : Type 0 where
   pub header : List ℕ
 
 -- "A refused read leaves the blank machine's header there (zeros at another length)"
-abbrev pub readBytes : ReadResult → ReadBytes
-readBytes o = record { answer = numberOf (o .answer); area = o .memory; header = headerOf (o .machine) }
+abbrev pub readInBytes : ReadResult → ReadBytes
+readInBytes o = record { answer = numberOf (o .answer); area = o .memory; header = headerOf (o .machine) }
 
 -- the file read into an area of n bytes and a header of k bytes
 unfoldable pub readOfBytes : List ℕ → ℕ → ℕ → ReadBytes
 readOfBytes file n k =
-    choose (eqb k 86) (readBytes (readOf file n)) (record { answer = badHeader; area = replicate n 0; header = replicate k 0 })
+    choose (eqb k 86) (readInBytes (readOf file n)) (record { answer = badHeader; area = replicate n 0; header = replicate k 0 })
 
 -- what writing leaves: the number, the length and the output
 pub record WriteBytes : Type 0 where
@@ -33,13 +33,13 @@ pub record WriteBytes : Type 0 where
   pub size : ℕ
   pub out : List ℕ
 
-abbrev pub writeBytes : WriteResult → WriteBytes
-writeBytes o = record { answer = numberOf (o .answer); size = o .size; out = o .out }
+abbrev pub writtenInBytes : WriteResult → WriteBytes
+writtenInBytes o = record { answer = numberOf (o .answer); size = o .size; out = o .out }
 
 -- "writing also if its bytes are none that our writer makes"
 abbrev pub writeDecoded : DecodedHeader → List ℕ → ℕ → WriteBytes
 writeDecoded t area n =
-    choose (t .canonical) (writeBytes (writtenOf (t .machine) area n)) (record { answer = badHeader; size = 0; out = replicate n 0 })
+    choose (t .canonical) (writtenInBytes (writtenOf (t .machine) area n)) (record { answer = badHeader; size = 0; out = replicate n 0 })
 
 -- the file of header and area into an output of n bytes
 unfoldable pub writeOfBytes : List ℕ → List ℕ → ℕ → WriteBytes

@@ -1,6 +1,6 @@
 // Reading and writing over bytes: the machine crosses as the 86-byte header that the writer makes for it.
-use spectrum::Answer;
-use spectrum::Refusal;
+use numbers::Answer;
+use numbers::Refusal;
 ghost use lib.ListN.{length};
 ghost use Rattle.file_bytes.specs.Files.{readOfBytes, ReadsBytes, writeOfBytes, WritesBytes};
 
@@ -11,14 +11,14 @@ pub fn read(file: &[u8], area: &mut [u8], head: &mut [u8]) -> u32
     if head.len() != 86 {
         slices::fill(area, 0);
         slices::fill(head, 0);
-        return spectrum::number(Answer::Refused(Refusal::InvalidMachine));
+        return numbers::number(Answer::Refused(Refusal::InvalidMachine));
     }
     let opened = z80read::read(file, area);
     let m = opened.machine;
     let answer = opened.answer;
     m.typed();
     header_write::write_header(m, head);
-    spectrum::number(answer)
+    numbers::number(answer)
 }
 
 // A header and its area into the one v3 file.
@@ -31,9 +31,9 @@ pub fn write(head: &[u8], area: &[u8], out: &mut [u8], size: &mut u64) -> u32
         let written = z80write::write(m, area, out);
         let answer = written.answer;
         *size = written.length as u64;
-        return spectrum::number(answer);
+        return numbers::number(answer);
     }
     slices::fill(out, 0);
     *size = 0;
-    spectrum::number(Answer::Refused(Refusal::InvalidMachine))
+    numbers::number(Answer::Refused(Refusal::InvalidMachine))
 }

@@ -1,12 +1,12 @@
 // What the header of a .Z80 file says before any machine is read: v1, v2 or v3, model and attachment, or why it is refused.
+use numbers::Refusal;
+use pages::Model;
 use spectrum::Attachment;
-use spectrum::Model;
-use spectrum::Refusal;
 ghost use Prim.Native.Nat.{_+_, _<_, _≤_};
 ghost use mathlib.Core.Path.{_≡_};
 ghost use lib.ListN.{length};
 ghost use Rattle.slices.specs.Bytes.{wordAt};
-ghost use Rattle.spectrum.specs.Clock.{quarter};
+ghost use Rattle.clock.specs.Clock.{quarter};
 ghost use Rattle.header.specs.Heads.{byte12Of, headerLength, versionOf, mode2, mode3, modeOf, clockHead, modeHead, laterHead, firstHead, headOf};
 
 pub enum Version {

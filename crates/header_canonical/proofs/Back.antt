@@ -13,11 +13,11 @@ use Rattle.slices.specs.Bytes.{at, wordAt, bitAt, bitOf}
 use Rattle.spectrum.specs.declared.Machine.{Machine}
 use Rattle.spectrum.specs.declared.Video.{Video}
 use Rattle.spectrum.specs.declared.Video.the-variants.{Normal, High, Low}
-use Rattle.spectrum.specs.declared.Model.{Model}
-use Rattle.spectrum.specs.declared.Model.the-variants.{K48, K128}
-use Rattle.spectrum.specs.Clock.{positionOf, lowOf, highOf}
+use Rattle.pages.specs.declared.Model.{Model}
+use Rattle.pages.specs.declared.Model.the-variants.{K48, K128}
+use Rattle.clock.specs.Clock.{positionOf, lowOf, highOf}
 use Rattle.spectrum.specs.Valid.{Typed, Valid}
-use Rattle.spectrum.proofs.Counters.{position-back}
+use Rattle.clock.proofs.Counters.{position-back}
 use Rattle.header.specs.declared.Version.the-variants.{V3}
 use Rattle.header_read.specs.Reading.{pairsBefore, pairsOf, videoOf, switchesOf, carried, soundOf, machineOf}
 use Rattle.header_pieces.specs.Pieces.{videoBits, counterBytes}

@@ -12,7 +12,7 @@ use Rattle.slices.specs.Same.{same}
 use Rattle.slices.specs.Bytes.{at}
 use Rattle.slices.proofs.Chosen.{both-true, same-refl, same-true}
 use Rattle.spectrum.specs.declared.Machine.{Machine}
-use Rattle.spectrum.specs.declared.Model.{Model}
+use Rattle.pages.specs.declared.Model.{Model}
 use Rattle.spectrum.specs.declared.Attachment.{Attachment}
 use Rattle.spectrum.specs.Valid.{Typed, Valid, validOf}
 use Rattle.spectrum.proofs.Validity.{valid-says, valid-true}

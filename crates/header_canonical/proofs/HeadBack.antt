@@ -6,11 +6,11 @@ use mathlib.Core.List.{List, _++_}
 use lib.ListN.{length, length-append}
 use Rattle.slices.specs.Bytes.{at, wordAt, bitOf}
 use Rattle.spectrum.specs.declared.Machine.{Machine}
-use Rattle.spectrum.specs.declared.Model.{Model}
-use Rattle.spectrum.specs.declared.Model.the-variants.{K48, K128}
+use Rattle.pages.specs.declared.Model.{Model}
+use Rattle.pages.specs.declared.Model.the-variants.{K48, K128}
 use Rattle.spectrum.specs.declared.Attachment.{Attachment}
 use Rattle.spectrum.specs.declared.Attachment.the-variants.{Nothing, InterfaceI, Mgt}
-use Rattle.spectrum.specs.Clock.{quarter, lowOf, highOf}
+use Rattle.clock.specs.Clock.{quarter, lowOf, highOf}
 use Rattle.spectrum.specs.Valid.{Typed, Valid}
 use Rattle.header.specs.declared.Version.the-variants.{V3}
 use Rattle.header.specs.declared.Known.the-variants.{Is}

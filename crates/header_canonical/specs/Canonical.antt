@@ -8,9 +8,9 @@ use Rattle.slices.specs.Choose.{choose, both}
 use Rattle.slices.specs.Same.{same}
 use Rattle.slices.specs.Bytes.{at}
 use Rattle.spectrum.specs.declared.Machine.{Machine}
-use Rattle.spectrum.specs.declared.Refusal.the-variants.{InvalidMachine}
+use Rattle.numbers.specs.declared.Refusal.the-variants.{InvalidMachine}
 use Rattle.spectrum.specs.Machine.{blankMachine}
-use Rattle.spectrum.specs.Numbers.{refusalNumber}
+use Rattle.numbers.specs.Numbers.{refusalNumber}
 use Rattle.spectrum.specs.Valid.{validOf}
 use Rattle.header.specs.declared.Version.the-variants.{V3}
 use Rattle.header.specs.declared.Mode.{Mode}

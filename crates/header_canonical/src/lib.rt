@@ -1,9 +1,9 @@
 // Which 86 bytes the writer makes, and of which machine.
 use header::Mode;
 use header::Version;
+use pages::Model;
 use spectrum::Attachment;
 use spectrum::Machine;
-use spectrum::Model;
 ghost use mathlib.Core.Path.{_≡_};
 ghost use lib.ListN.{length};
 ghost use Rattle.slices.specs.Same.{same};

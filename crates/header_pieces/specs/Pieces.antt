@@ -8,11 +8,11 @@ use Rattle.spectrum.specs.declared.Machine.{Machine}
 use Rattle.spectrum.specs.declared.Switches.{Switches}
 use Rattle.spectrum.specs.declared.Video.{Video}
 use Rattle.spectrum.specs.declared.Video.the-variants.{Normal, High, Low}
-use Rattle.spectrum.specs.declared.Model.{Model}
-use Rattle.spectrum.specs.declared.Model.the-variants.{K48, K128}
+use Rattle.pages.specs.declared.Model.{Model}
+use Rattle.pages.specs.declared.Model.the-variants.{K48, K128}
 use Rattle.spectrum.specs.declared.Attachment.{Attachment}
 use Rattle.spectrum.specs.declared.Attachment.the-variants.{Nothing, InterfaceI, Mgt}
-use Rattle.spectrum.specs.Clock.{lowOf, highOf}
+use Rattle.clock.specs.Clock.{lowOf, highOf}
 
 -- bytes 0 to 12; PC is 0 here. "The rest of 11 and 12 is written 0."
 abbrev pub firstRegisters : List ℕ → ℕ → ℕ → ℕ → List ℕ

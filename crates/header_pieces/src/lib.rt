@@ -1,7 +1,7 @@
 // The pieces of the 86 header bytes of a machine.
+use pages::Model;
 use spectrum::Attachment;
 use spectrum::Machine;
-use spectrum::Model;
 use spectrum::Switches;
 use spectrum::Video;
 ghost use mathlib.Core.Path.{_≡_};
@@ -130,8 +130,8 @@ pub fn port_bytes(m: Machine) -> [u8; 5]
 pub fn counter_bytes(model: Model, position: u32, side59: u8) -> [u8; 6]
     ensures { λ q. ⌜ q ≡ counterBytes model position side59 ⌝ }
 {
-    let low = spectrum::clock::low_counter(model, position);
-    let high = spectrum::clock::high_counter(model, position);
+    let low = clock::low_counter(model, position);
+    let high = clock::high_counter(model, position);
     [
         (low % 256) as u8,
         (low / 256 % 256) as u8,

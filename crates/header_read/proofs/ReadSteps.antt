@@ -6,10 +6,10 @@ use mathlib.Core.List.{List}
 use lib.ListN.{take, drop}
 use borrow.Author.Tests.{ne-eqb}
 use Rattle.slices.specs.Bytes.{at, wordAt}
-use Rattle.spectrum.specs.declared.Model.{Model}
-use Rattle.spectrum.specs.declared.Model.the-variants.{K128}
+use Rattle.pages.specs.declared.Model.{Model}
+use Rattle.pages.specs.declared.Model.the-variants.{K128}
 use Rattle.spectrum.specs.declared.Video.the-variants.{Normal}
-use Rattle.spectrum.specs.Clock.{positionOf}
+use Rattle.clock.specs.Clock.{positionOf}
 use Rattle.header.specs.declared.Version.{Version}
 use Rattle.header.specs.declared.Version.the-variants.{V1, V2, V3}
 use Rattle.header.specs.Heads.{headerLength}

@@ -5,10 +5,10 @@ use mathlib.Core.Path.{_≡_, refl}
 use mathlib.Core.Bool.{true}
 use mathlib.Core.List.{List}
 use Rattle.slices.specs.Bytes.{at}
-use Rattle.spectrum.specs.declared.Model.{Model}
-use Rattle.spectrum.specs.declared.Model.the-variants.{K48, K128}
+use Rattle.pages.specs.declared.Model.{Model}
+use Rattle.pages.specs.declared.Model.the-variants.{K48, K128}
 use Rattle.spectrum.specs.declared.Attachment.{Attachment}
-use Rattle.spectrum.specs.Clock.{clockEnd}
+use Rattle.clock.specs.Clock.{clockEnd}
 use Rattle.spectrum.specs.Valid.{Valid, validOf}
 use Rattle.spectrum.proofs.Validity.{valid-true}
 use Rattle.header.specs.declared.Version.{Version}

@@ -10,10 +10,10 @@ use Rattle.spectrum.specs.declared.Machine.{Machine}
 use Rattle.spectrum.specs.declared.Switches.{Switches}
 use Rattle.spectrum.specs.declared.Video.{Video}
 use Rattle.spectrum.specs.declared.Video.the-variants.{Normal, High, Low}
-use Rattle.spectrum.specs.declared.Model.{Model}
-use Rattle.spectrum.specs.declared.Model.the-variants.{K48, K128}
+use Rattle.pages.specs.declared.Model.{Model}
+use Rattle.pages.specs.declared.Model.the-variants.{K48, K128}
 use Rattle.spectrum.specs.declared.Attachment.{Attachment}
-use Rattle.spectrum.specs.Clock.{positionOf}
+use Rattle.clock.specs.Clock.{positionOf}
 use Rattle.header.specs.declared.Version.{Version}
 use Rattle.header.specs.declared.Version.the-variants.{V1, V2, V3}
 use Rattle.header.specs.Heads.{byte12Of}

@@ -1,15 +1,15 @@
 // The machine that a header gives, part by part.
 use header::Version;
+use pages::Model;
 use spectrum::Attachment;
 use spectrum::Machine;
-use spectrum::Model;
 use spectrum::Switches;
 use spectrum::Video;
 ghost use Prim.Native.Nat.{_+_, _<_, _≤_};
 ghost use mathlib.Core.Path.{_≡_};
 ghost use lib.ListN.{length, take, drop};
 ghost use Rattle.slices.specs.Bytes.{at};
-ghost use Rattle.spectrum.specs.declared.Model.the-variants.{K128};
+ghost use Rattle.pages.specs.declared.Model.the-variants.{K128};
 ghost use Rattle.header.specs.Heads.{headerLength};
 ghost use Rattle.header.specs.Inner.{Readable};
 ghost use Rattle.header_read.specs.Reading.{pcAt, pairsBefore, pairsOf, videoOf, switchesOf, carried, soundOf, afterV1, framePosition, side59Of, noSide, sideOf, machineOf};
@@ -130,7 +130,7 @@ fn read_position(s: &[u8], version: Version, model: Model) -> u32
     match version {
         Version::V1 => 0,
         Version::V2 => 0,
-        Version::V3 => spectrum::clock::position(model, header::word(s, 55), s[57]),
+        Version::V3 => clock::position(model, header::word(s, 55), s[57]),
     }
 }
 

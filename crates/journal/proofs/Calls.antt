@@ -9,12 +9,12 @@ use lib.ListN.{length, replicate}
 use Rattle.slices.specs.Choose.{both}
 use Rattle.slices.proofs.Chosen.{both-true, not-flip}
 use Rattle.spectrum.specs.declared.Machine.{Machine}
-use Rattle.spectrum.specs.declared.Refusal.{Refusal}
-use Rattle.spectrum.specs.declared.Refusal.the-variants.{InvalidMachine, MemoryLength, CountsDisagree}
-use Rattle.spectrum.specs.declared.Answer.{Answer}
-use Rattle.spectrum.specs.declared.Answer.the-variants.{Accepted, Refused}
+use Rattle.numbers.specs.declared.Refusal.{Refusal}
+use Rattle.numbers.specs.declared.Refusal.the-variants.{InvalidMachine, MemoryLength, CountsDisagree}
+use Rattle.numbers.specs.declared.Answer.{Answer}
+use Rattle.numbers.specs.declared.Answer.the-variants.{Accepted, Refused}
 use Rattle.spectrum.specs.Valid.{validOf}
-use Rattle.spectrum.proofs.Numbers.{refuse-not}
+use Rattle.numbers.proofs.Numbers.{refuse-not}
 use Rattle.z80read.specs.declared.Opened.{Opened}
 use Rattle.z80read.specs.Read.{readOf, Reads}
 use Rattle.log_steps.specs.declared.Counts.{Counts}

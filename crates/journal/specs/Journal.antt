@@ -6,11 +6,11 @@ use lib.ListN.{length, replicate}
 use lib.Dec.{leb, eqb}
 use Rattle.slices.specs.Choose.{both}
 use Rattle.spectrum.specs.declared.Machine.{Machine}
-use Rattle.spectrum.specs.declared.Refusal.the-variants.{InvalidMachine, MemoryLength, CountsDisagree}
-use Rattle.spectrum.specs.declared.Answer.{Answer}
-use Rattle.spectrum.specs.declared.Answer.the-variants.{Accepted}
+use Rattle.numbers.specs.declared.Refusal.the-variants.{InvalidMachine, MemoryLength, CountsDisagree}
+use Rattle.numbers.specs.declared.Answer.{Answer}
+use Rattle.numbers.specs.declared.Answer.the-variants.{Accepted}
 use Rattle.spectrum.specs.State.{State}
-use Rattle.spectrum.specs.Numbers.{refuse}
+use Rattle.numbers.specs.Numbers.{refuse}
 use Rattle.spectrum.specs.Valid.{validOf}
 use Rattle.z80read.specs.Read.{ReadResult, readOf}
 use Rattle.log_steps.specs.declared.Counts.{Counts}

@@ -2,9 +2,9 @@
 // correction is read and gets a log.
 use log_steps::Counts;
 use log_steps::Done;
-use spectrum::Answer;
+use numbers::Answer;
+use numbers::Refusal;
 use spectrum::Machine;
-use spectrum::Refusal;
 ghost use mathlib.Core.Path.{_≡_};
 ghost use lib.ListN.{length, replicate};
 ghost use Rattle.log_steps.specs.Session.{sessionOn, resultOf};

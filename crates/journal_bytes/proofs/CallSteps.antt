@@ -9,9 +9,9 @@ use lib.Dec.{eqb}
 use borrow.Author.Tests.{eqb-true}
 use Rattle.slices.specs.Choose.{choose}
 use Rattle.spectrum.specs.declared.Machine.{Machine}
-use Rattle.spectrum.specs.declared.Answer.the-variants.{Refused}
-use Rattle.spectrum.specs.declared.Refusal.the-variants.{InvalidMachine}
-use Rattle.spectrum.specs.Numbers.{numberOf}
+use Rattle.numbers.specs.declared.Answer.the-variants.{Refused}
+use Rattle.numbers.specs.declared.Refusal.the-variants.{InvalidMachine}
+use Rattle.numbers.specs.Numbers.{numberOf}
 use Rattle.header_canonical.specs.declared.DecodedHeader.{DecodedHeader}
 use Rattle.header_write.specs.Writing.{headerOf}
 use Rattle.header_canonical.specs.Canonical.{decodedOf}

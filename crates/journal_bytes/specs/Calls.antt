@@ -5,7 +5,7 @@ use mathlib.Core.List.{List}
 use lib.ListN.{replicate}
 use Rattle.slices.specs.Choose.{choose}
 use Rattle.spectrum.specs.declared.Machine.{Machine}
-use Rattle.spectrum.specs.Numbers.{numberOf}
+use Rattle.numbers.specs.Numbers.{numberOf}
 use Rattle.header_canonical.specs.declared.DecodedHeader.{DecodedHeader}
 use Rattle.header_write.specs.Writing.{headerOf}
 use Rattle.header_canonical.specs.Canonical.{decodedOf, badHeader}
@@ -31,19 +31,12 @@ pub record Answered : Type 0 where
 abbrev pub sessionFor : Machine → Buffers → Session
 sessionFor m b = record { state = record { machine = m; memory = b .area }; log = b .log; standing = b .standing; total = b .total }
 
--- what a call left, as bytes
+-- a session as bytes, and what a call left
+abbrev pub sessionBytes : Session → Buffers
+sessionBytes d = buffers (headerOf (d .state .machine)) (d .state .memory) (d .log) (d .standing) (d .total)
+
 abbrev pub answeredBy : CallResult → Answered
-answeredBy x =
-    record {
-      answer = numberOf (x .answer);
-      left = record {
-        header = headerOf (x .session .state .machine);
-        area = x .session .state .memory;
-        log = x .session .log;
-        standing = x .session .standing;
-        total = x .session .total;
-      };
-    }
+answeredBy x = record { answer = numberOf (x .answer); left = sessionBytes (x .session) }
 
 -- a call of the journal made on buffers; 20 and nothing changed where the header is none that the writer makes
 abbrev pub onDecoded : DecodedHeader → (Session → CallResult) → Buffers → Answered

@@ -2,7 +2,7 @@
 use Prim.Native.Nat.{ℕ}
 use mathlib.Core.Path.{_≡_}
 use mathlib.Core.List.{List}
-use Rattle.spectrum.specs.Numbers.{numberOf}
+use Rattle.numbers.specs.Numbers.{numberOf}
 use Rattle.header_write.specs.Writing.{headerOf}
 use Rattle.log_steps.specs.declared.Done.{Done}
 

@@ -3,8 +3,8 @@
 use journal::Call;
 use log_steps::Counts;
 use log_steps::Done;
-use spectrum::Answer;
-use spectrum::Refusal;
+use numbers::Answer;
+use numbers::Refusal;
 ghost use mathlib.Core.Path.{_≡_};
 ghost use lib.ListN.{length};
 ghost use Rattle.journal_bytes.specs.Calls.{buffers, snapCall, CallLeaves, LogStarts};
@@ -17,7 +17,7 @@ pub fn start(log: &mut [u8], standing: &mut u64, total: &mut u64) -> u32
     let counts = journal::start(log);
     *standing = counts.standing as u64;
     *total = counts.total as u64;
-    spectrum::number(Answer::Accepted)
+    numbers::number(Answer::Accepted)
 }
 
 // Any one call.
@@ -41,7 +41,7 @@ pub fn call(
         let done = journal::call_on(m, area, log, n, call);
         return put_back(head, standing, total, done);
     }
-    spectrum::number(Answer::Refused(Refusal::InvalidMachine))
+    numbers::number(Answer::Refused(Refusal::InvalidMachine))
 }
 
 // The machine's header, the two numbers and the number of the answer, from what a call gave.
@@ -55,5 +55,5 @@ fn put_back(head: &mut [u8], standing: &mut u64, total: &mut u64, done: Done) ->
     header_write::write_header(m, head);
     *standing = n.standing as u64;
     *total = n.total as u64;
-    spectrum::number(answer)
+    numbers::number(answer)
 }

@@ -11,10 +11,10 @@ use lib.Seq.{set-out}
 use Rattle.slices.specs.Choose.{choose, both}
 use Rattle.slices.proofs.Chosen.{both-true}
 use Rattle.spectrum.specs.declared.Machine.{Machine}
-use Rattle.spectrum.specs.declared.Model.{Model}
+use Rattle.pages.specs.declared.Model.{Model}
 use Rattle.spectrum.specs.Machine.{withPair, withOut}
-use Rattle.spectrum.specs.Pages.{owned}
-use Rattle.spectrum.proofs.Places.{owned-none}
+use Rattle.pages.specs.Pages.{owned}
+use Rattle.pages.proofs.Places.{owned-none}
 use Rattle.log_steps.specs.declared.Step.{Step}
 use Rattle.spectrum.specs.State.{State}
 use Rattle.log_steps.specs.Steps.{capacity, present, placed, twoBytes, is128, tagIntact, intact}

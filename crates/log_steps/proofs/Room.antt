@@ -5,8 +5,8 @@ use mathlib.Core.Path.{_≡_}
 use mathlib.Core.List.{List}
 use lib.ListN.{length}
 use Rattle.spectrum.specs.declared.Machine.{Machine}
-use Rattle.spectrum.specs.declared.Refusal.{Refusal}
-use Rattle.spectrum.specs.declared.Answer.the-variants.{Refused}
+use Rattle.numbers.specs.declared.Refusal.{Refusal}
+use Rattle.numbers.specs.declared.Answer.the-variants.{Refused}
 use Rattle.log_steps.specs.declared.Counts.{Counts}
 use Rattle.log_steps.specs.declared.Done.{Done}
 use Rattle.log_steps.specs.Steps.{capacity}

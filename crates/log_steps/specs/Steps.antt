@@ -7,11 +7,11 @@ use lib.ListN.{getD, set}
 use lib.Dec.{ltb, eqb}
 use Rattle.slices.specs.Choose.{choose, both}
 use Rattle.slices.specs.Put.{put}
-use Rattle.spectrum.specs.declared.Model.{Model}
-use Rattle.spectrum.specs.declared.Model.the-variants.{K48, K128}
+use Rattle.pages.specs.declared.Model.{Model}
+use Rattle.pages.specs.declared.Model.the-variants.{K48, K128}
 use Rattle.spectrum.specs.Machine.{withPair, withOut}
 use Rattle.spectrum.specs.State.{State}
-use Rattle.spectrum.specs.Pages.{owned}
+use Rattle.pages.specs.Pages.{owned}
 use Rattle.log_steps.specs.declared.Step.{Step}
 
 -- "Capacity is the log's length divided by 11, rounded down, at most 4,096."

@@ -1,13 +1,13 @@
 // The steps of the correction log, eleven bytes each: read, written, tested, and the value where one points. The log's two numbers, and what a
 // call gives.
-use spectrum::Answer;
+use numbers::Answer;
+use numbers::Refusal;
+use pages::Model;
 use spectrum::Machine;
-use spectrum::Model;
-use spectrum::Refusal;
 ghost use Prim.Native.Nat.{_+_, _-_, _*_, _≤_, _<_};
 ghost use mathlib.Core.Path.{_≡_};
 ghost use lib.ListN.{length};
-ghost use Rattle.spectrum.specs.declared.Answer.the-variants.{Accepted, Refused};
+ghost use Rattle.numbers.specs.declared.Answer.the-variants.{Accepted, Refused};
 ghost use Rattle.log_steps.specs.Steps.{capacity, putStep, stepAt, present, placed, twoBytes, is128, tagIntact, intact};
 
 // The log's two numbers: how many corrections stand, and how many stand or wait.
@@ -167,7 +167,7 @@ fn tag_intact(model: Model, s: Step) -> bool
     let tag = s.tag;
     let small = slices::and(s.old < 256, s.new < 256);
     if tag == 1 {
-        let mine = spectrum::pages::owns(model, s.index as usize);
+        let mine = pages::owns(model, s.index as usize);
         return slices::and(mine, slices::and(s.offset < 16384, small));
     }
     if tag == 2 {

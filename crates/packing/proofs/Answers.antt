@@ -15,7 +15,7 @@ use Rattle.packed.specs.Packed.Promise.{unpacked-packed}
 use Rattle.packed.specs.Packing.{Packs, fits}
 use Rattle.packed.specs.Inner.{packedAs, PackedInto}
 use Rattle.packed.proofs.Frame.{Frame}
-use Rattle.codewise.proofs.PackSteps.{whole, never-length}
+use Rattle.pack_tail.proofs.PackSteps.{whole, never-length}
 use Rattle.packed.specs.declared.Fit.{Fit}
 use Rattle.packed.specs.declared.Fit.the-variants.{Length, TooShort}
 

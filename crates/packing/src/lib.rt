@@ -1,6 +1,6 @@
 // Packing. Up to where a code may begin 16 bytes are stored at a time.
-use codewise::pack_rest;
-use codewise::put_run;
+use pack_tail::pack_rest;
+use pack_tail::put_run;
 use packed::Fit;
 use runs::run_from;
 use stretches::copy16;

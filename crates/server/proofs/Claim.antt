@@ -3,7 +3,7 @@ use Prim.Native.Nat.{ℕ}
 use mathlib.Core.Path.{_≡_, refl, ap, subst, _∙_}
 use mathlib.Core.List.{List, [], _∷_, map}
 use lib.ListN.{length, replicate, length-replicate}
-use Rattle.spectrum.specs.Numbers.{numberOf}
+use Rattle.numbers.specs.Numbers.{numberOf}
 use Rattle.header_canonical.specs.declared.DecodedHeader.{DecodedHeader}
 use Rattle.header_write.specs.Writing.{headerOf}
 use Rattle.header_canonical.proofs.Canonical.{decoded-back}
@@ -15,7 +15,7 @@ use Rattle.journal.specs.Journal.{journalCall}
 use Rattle.claim.specs.Claim.{ValidStart, TypedCalls, runAfter, runAnswers}
 use Rattle.claim.proofs.Claim.{claim, start-after}
 use Rattle.journal_bytes.specs.Calls.{Buffers, Answered, answeredBy, onDecoded, callOn, snapCall}
-use Rattle.server_calls.proofs.Still.{sessionBytes}
+use Rattle.journal_bytes.specs.Calls.{sessionBytes}
 use Rattle.server.specs.Server.{runBuffers, runNumbers, startedBuffers, HistoryBytes, ByteClaimOf}
 
 -- a call over the bytes of a session with a valid machine is the call on the session

@@ -19,7 +19,7 @@ use Rattle.log_steps.specs.Session.{Session, CallResult}
 use Rattle.claim.specs.Claim.{ValidStart}
 use Rattle.call_list.specs.CallList.{callAt, callsFrom, callCount, callsIn}
 use Rattle.call_list.proofs.Decode.{calls-more, typed-all}
-use Rattle.spectrum.proofs.Numbers.{number-small}
+use Rattle.numbers.proofs.Numbers.{number-small}
 use Rattle.journal_bytes.specs.Calls.{Buffers, buffers, Answered, sessionFor, answeredBy, callOn, snapCall, CallLeaves}
 use Rattle.server.specs.Server.{runBuffers, runNumbers, startedBuffers, HistoryBytes, RanBytes, Serves}
 use Rattle.server.proofs.Claim.{byte-claim}

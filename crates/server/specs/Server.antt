@@ -5,7 +5,7 @@ use mathlib.Core.Path.{_≡_}
 use mathlib.Core.List.{List, [], _∷_, _++_, map}
 use lib.ListN.{length, replicate}
 use Rattle.spectrum.specs.declared.Machine.{Machine}
-use Rattle.spectrum.specs.Numbers.{numberOf}
+use Rattle.numbers.specs.Numbers.{numberOf}
 use Rattle.header_write.specs.Writing.{headerOf, HeaderFor}
 use Rattle.header_canonical.specs.Canonical.{badHeader}
 use Rattle.journal.specs.declared.Call.{Call}

@@ -4,21 +4,16 @@ use mathlib.Core.Path.{_≡_, refl, sym, ap, _∙_}
 use mathlib.Core.Bool.{Bool, true, false}
 use mathlib.Core.List.{List}
 use Rattle.slices.specs.Choose.{choose}
-use Rattle.spectrum.specs.declared.Answer.{Answer}
-use Rattle.spectrum.specs.declared.Answer.the-variants.{Accepted, Refused}
-use Rattle.spectrum.specs.Numbers.{numberOf}
-use Rattle.header_write.specs.Writing.{headerOf}
+use Rattle.numbers.specs.declared.Answer.{Answer}
+use Rattle.numbers.specs.declared.Answer.the-variants.{Accepted, Refused}
+use Rattle.numbers.specs.Numbers.{numberOf}
 use Rattle.header_canonical.specs.Canonical.{decodedOf, badHeader}
 use Rattle.header_canonical.proofs.Canonical.{decoded-same}
 use Rattle.journal.specs.declared.Call.{Call}
 use Rattle.log_steps.specs.Session.{Session}
 use Rattle.journal.specs.Journal.{journalCall}
 use Rattle.claim.proofs.Still.{still}
-use Rattle.journal_bytes.specs.Calls.{Buffers, buffers, sessionFor, answeredBy, callOn, snapCall}
-
--- a session as bytes
-abbrev pub sessionBytes : Session → Buffers
-sessionBytes d = buffers (headerOf (d .state .machine)) (d .state .memory) (d .log) (d .standing) (d .total)
+use Rattle.journal_bytes.specs.Calls.{Buffers, buffers, sessionFor, sessionBytes, answeredBy, callOn, snapCall}
 
 -- a refused call leaves every buffer as it was
 pub byte-still : (c : Call) (b : Buffers) → (snapCall c b .answer ≡ 0 → ⊥) → snapCall c b .left ≡ b

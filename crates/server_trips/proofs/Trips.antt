@@ -20,11 +20,11 @@ use Rattle.z80write.proofs.Whole.{room}
 use Rattle.z80write.proofs.Longest.{file-most}
 use Rattle.z80file.specs.Clean.{Clean}
 use Rattle.z80file.proofs.File.{file-back, length-inside, read-start}
-use Rattle.file_bytes.specs.Files.{ReadBytes, WriteBytes, readBytes, readOfBytes, writeBytes, writeDecoded, writeOfBytes, ReadsBytes, WritesBytes}
+use Rattle.file_bytes.specs.Files.{ReadBytes, WriteBytes, readInBytes, readOfBytes, writtenInBytes, writeDecoded, writeOfBytes, ReadsBytes, WritesBytes}
 use Rattle.file_bytes.proofs.Accepted.{read-0, write-decoded-as}
 use Rattle.server_trips.specs.Trips.{WritesThenReads, ReadsThenWrites}
 
-read-whole : (file : List ℕ) → readOfBytes file 131072 86 ≡ readBytes (readOf file 131072)
+read-whole : (file : List ℕ) → readOfBytes file 131072 86 ≡ readInBytes (readOf file 131072)
 unfolding readOfBytes
 read-whole file = refl
 
@@ -36,24 +36,24 @@ size-fits head area n w size out p = subst (λ (k : ℕ). k ≤ n) (sym (p .size
     go : (t : DecodedHeader) → writeDecoded t area n .size ≤ n
     go t = fit (t .canonical)
       where
-        fit : (c : Bool) → choose c (writeBytes (writtenOf (t .machine) area n)) (record { answer = badHeader; size = 0; out = replicate n 0 }) .size ≤ n
+        fit : (c : Bool) → choose c (writtenInBytes (writtenOf (t .machine) area n)) (record { answer = badHeader; size = 0; out = replicate n 0 }) .size ≤ n
         fit true =
             let o = writtenOf (t .machine) area n in
             length-inside (t .machine) area n (record { answer = o .answer; length = o .size }) (o .out) (record { answer = refl; size = refl; memory = refl })
         fit false = omega arith
 
 -- what is written of a valid machine's header and a clean area reads as both
-trip : (m : Machine) (head area : List ℕ) (n w size : ℕ) (out : List ℕ) → HeaderFor m head → Clean (m .model) area → 131182 ≤ n → WritesBytes (writeOfBytes head area n) w size out
+trip : (m : Machine) (head area : List ℕ) (n w size : ℕ) (out : List ℕ) → HeaderFor m head → Clean (m .model) area → length (fileOf m area) ≤ n → WritesBytes (writeOfBytes head area n) w size out
     → (w ≡ 0) × (readOfBytes (take size out) 131072 86 ≡ record { answer = 0; area = area; header = head })
 trip m head area n w size out f c h p =
     let file = fileOf m area in
-    let o : writeOfBytes head area n ≡ writeBytes (acceptedWrite file n)
+    let o : writeOfBytes head area n ≡ writtenInBytes (acceptedWrite file n)
     = write-decoded-as m head area n (decoded-back m head f)
-    ∙ ap writeBytes (room m area n (f .valid) (c .long) (omega (arith, file-most m area (f .typed)))) in
+    ∙ ap writtenInBytes (room m area n (f .valid) (c .long) h) in
     let wrote : take size out ≡ file
     = (λ i. take (p .size i) (p .out i)) ∙ ap (λ (x : WriteBytes). take (x .size) (x .out)) o ∙ take-at file (replicate (n - length file) 0) (length file) refl in (
       p .answer ∙ ap (λ (x : WriteBytes). x .answer) o,
-      ap (λ (l : List ℕ). readOfBytes l 131072 86) wrote ∙ read-whole file ∙ ap readBytes (file-back m area (f .typed) (f .valid) c)
+      ap (λ (l : List ℕ). readOfBytes l 131072 86) wrote ∙ read-whole file ∙ ap readInBytes (file-back m area (f .typed) (f .valid) c)
           ∙ ap (λ (x : List ℕ). record { answer = 0; area = area; header = x }) (sym (f .is)),
     )
 
@@ -90,7 +90,7 @@ reads-then-writes file n k l r w size area head out bytes p g =
           let ea : area ≡ o .memory = p .area ∙ ap (λ (x : ReadBytes). x .area) (q .1) in
           let f : HeaderFor (o .machine) head
           = record { valid = s .valid; typed = read-typed file n bytes (q .0); is = p .header ∙ ap (λ (x : ReadBytes). x .header) (q .1) } in
-          let t = trip (o .machine) head area l w size out f (subst (Clean (o .machine .model)) (sym ea) (s .clean)) h g in
+          let t = trip (o .machine) head area l w size out f (subst (Clean (o .machine .model)) (sym ea) (s .clean)) (omega (arith, file-most (o .machine) area (f .typed))) g in
           record { written = t .0; again = t .1 };
       most = λ e. read-most file n bytes (read-0 file n k (sym (p .answer) ∙ e) .0);
     }

@@ -1,4 +1,4 @@
--- Bytes and words of a header. "Multi-byte numbers have their low byte first."
+-- Bytes, words and bits. "Multi-byte numbers have their low byte first."
 use Prim.Native.Nat.{ℕ, _+_, _*_, _/_, _%_}
 use mathlib.Core.Bool.{Bool, true, false}
 use mathlib.Core.List.{List}

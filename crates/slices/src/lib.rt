@@ -1,4 +1,4 @@
-// Loops over lent bytes that every layer uses: fill, clear, put.
+// What every layer uses and knows no format: lent bytes filled, cleared and put; words, the lesser, both of two.
 ghost use Prim.Native.Nat.{_+_, _-_, _*_, _≤_, _<_, min};
 ghost use mathlib.Core.Path.{_≡_};
 ghost use mathlib.Core.List.{_++_};

@@ -1,8 +1,8 @@
 -- The one value of the record of theorems.
 use Rattle.spectrum.specs.Theorems.{Theorems}
 use Rattle.spectrum.proofs.Validity.{valid-says, valid-true}
-use Rattle.spectrum.proofs.Counters.{position-back, counters-back}
-use Rattle.spectrum.proofs.Numbers.{number-0, number-small}
+use Rattle.clock.proofs.Counters.{position-back, counters-back}
+use Rattle.numbers.proofs.Numbers.{number-0, number-small}
 
 pub theorems : Theorems
 theorems =

@@ -9,8 +9,8 @@ use borrow.Author.Tests.{ltb-true, lt-ltb, eqb-true, eq-eqb}
 use Rattle.slices.specs.Choose.{both}
 use Rattle.slices.proofs.Chosen.{both-true}
 use Rattle.spectrum.specs.declared.Machine.{Machine}
-use Rattle.spectrum.specs.declared.Model.{Model}
-use Rattle.spectrum.specs.declared.Model.the-variants.{K48, K128}
+use Rattle.pages.specs.declared.Model.{Model}
+use Rattle.pages.specs.declared.Model.the-variants.{K48, K128}
 use Rattle.spectrum.specs.Valid.{zeros, quietOf, validOf, Valid}
 use Rattle.spectrum.proofs.Zeros.{zeros-are, zeros-of}
 

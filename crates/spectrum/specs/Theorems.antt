@@ -3,11 +3,11 @@ use Prim.Native.Nat.{ℕ, _<_}
 use mathlib.Core.Path.{_≡_}
 use mathlib.Core.Bool.{true}
 use Rattle.spectrum.specs.declared.Machine.{Machine}
-use Rattle.spectrum.specs.declared.Model.{Model}
-use Rattle.spectrum.specs.declared.Answer.{Answer}
-use Rattle.spectrum.specs.declared.Answer.the-variants.{Accepted}
-use Rattle.spectrum.specs.Numbers.{numberOf}
-use Rattle.spectrum.specs.Clock.{quarter, clockEnd, positionOf, lowOf, highOf}
+use Rattle.pages.specs.declared.Model.{Model}
+use Rattle.numbers.specs.declared.Answer.{Answer}
+use Rattle.numbers.specs.declared.Answer.the-variants.{Accepted}
+use Rattle.numbers.specs.Numbers.{numberOf}
+use Rattle.clock.specs.Clock.{quarter, clockEnd, positionOf, lowOf, highOf}
 use Rattle.spectrum.specs.Valid.{Typed, Valid, validOf}
 
 pub record Theorems : Type 0 where

@@ -1,19 +1,12 @@
-// A Spectrum's state as one record by value, its pages and paging, the frame clock, and the numbers that calls answer.
-pub mod clock;
-pub mod pages;
-
+// A Spectrum as one record by value: all that document 01 carries of it but its memory.
+use pages::Model;
+use pages::Place;
 ghost use mathlib.Core.Path.{_≡_};
 ghost use lib.ListN.{getD};
 ghost use lib.Dec.{ltb};
 ghost use Rattle.spectrum.specs.Machine.{withPair, withOut, blankMachine};
 ghost use Rattle.spectrum.specs.Valid.{Typed, zeros, quietOf, validOf};
-ghost use Rattle.spectrum.specs.Pages.{placeOf};
-ghost use Rattle.spectrum.specs.Numbers.{numberOf, refusalNumber};
-
-pub enum Model {
-    K48,
-    K128,
-}
+ghost use Rattle.pages.specs.Pages.{placeOf};
 
 pub enum Attachment {
     Nothing,
@@ -61,54 +54,6 @@ pub struct Machine {
     // the 26 side bytes: byte 59, and bytes 61 to 85
     pub side59: u8,
     pub side: [u8; 25],
-}
-
-// A block number of a file and the RAM page that it stands for.
-pub struct Slot {
-    pub number: u8,
-    pub page: usize,
-}
-
-// Where an address of the processor leads.
-pub enum Place {
-    Rom,
-    Ram { page: usize, offset: usize },
-}
-
-// Why a call is refused, in the order of document 01's table.
-pub enum Refusal {
-    AreaLength,
-    FileShort,
-    UnknownVersion,
-    ModeNotCarried,
-    InterruptMode,
-    CounterRange,
-    Byte60,
-    BlockCut,
-    BlockNumber,
-    BlockTwice,
-    MalformedData,
-    UnpackedLength,
-    BlockMissing,
-    EndMarker,
-    InvalidMachine,
-    MemoryLength,
-    OutputShort,
-    RomAddress,
-    OutOn48k,
-    PagingLocked,
-    JournalFull,
-    NothingToMove,
-    StepDamaged,
-    CountsDisagree,
-    PageNotOwned,
-    RomLength,
-    PairNumber,
-}
-
-pub enum Answer {
-    Accepted,
-    Refused(Refusal),
 }
 
 impl Machine {
@@ -209,7 +154,7 @@ impl Machine {
         ensures { λ r. ⌜ r ≡ placeOf (self .model) (self .out7ffd) address ⌝ }
     {
         let model = self.model;
-        pages::place(model, self.out7ffd, address)
+        pages::place_of(model, self.out7ffd, address)
     }
 
     // What the types of the fields say, for a caller's proof.
@@ -241,48 +186,4 @@ fn silent(sound: &[u8]) -> bool
         i += 1;
     }
     true
-}
-
-// The number of an answer.
-pub fn number(answer: Answer) -> u32
-    ensures { λ r. ⌜ r ≡ numberOf answer ⌝ }
-{
-    match answer {
-        Answer::Accepted => 0,
-        Answer::Refused(why) => refusal_number(why),
-    }
-}
-
-fn refusal_number(why: Refusal) -> u32
-    ensures { λ r. ⌜ r ≡ refusalNumber why ⌝ }
-{
-    match why {
-        Refusal::AreaLength => 1,
-        Refusal::FileShort => 2,
-        Refusal::UnknownVersion => 3,
-        Refusal::ModeNotCarried => 4,
-        Refusal::InterruptMode => 5,
-        Refusal::CounterRange => 6,
-        Refusal::Byte60 => 7,
-        Refusal::BlockCut => 8,
-        Refusal::BlockNumber => 9,
-        Refusal::BlockTwice => 10,
-        Refusal::MalformedData => 11,
-        Refusal::UnpackedLength => 12,
-        Refusal::BlockMissing => 13,
-        Refusal::EndMarker => 14,
-        Refusal::InvalidMachine => 20,
-        Refusal::MemoryLength => 21,
-        Refusal::OutputShort => 22,
-        Refusal::RomAddress => 23,
-        Refusal::OutOn48k => 24,
-        Refusal::PagingLocked => 25,
-        Refusal::JournalFull => 26,
-        Refusal::NothingToMove => 27,
-        Refusal::StepDamaged => 28,
-        Refusal::CountsDisagree => 29,
-        Refusal::PageNotOwned => 30,
-        Refusal::RomLength => 31,
-        Refusal::PairNumber => 32,
-    }
 }

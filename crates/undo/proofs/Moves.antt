@@ -5,8 +5,8 @@ use mathlib.Core.Bool.{Bool, true, false}
 use mathlib.Core.List.{List}
 use borrow.Author.Tests.{lt-ltb, le-ltb, eq-eqb, ne-eqb}
 use Rattle.spectrum.specs.declared.Machine.{Machine}
-use Rattle.spectrum.specs.declared.Refusal.the-variants.{NothingToMove, StepDamaged}
-use Rattle.spectrum.specs.declared.Answer.the-variants.{Accepted}
+use Rattle.numbers.specs.declared.Refusal.the-variants.{NothingToMove, StepDamaged}
+use Rattle.numbers.specs.declared.Answer.the-variants.{Accepted}
 use Rattle.log_steps.specs.declared.Step.{Step}
 use Rattle.log_steps.specs.declared.Counts.{Counts}
 use Rattle.log_steps.specs.declared.Done.{Done}

@@ -2,8 +2,8 @@
 use Prim.Native.Nat.{ℕ, _+_, _-_}
 use lib.Dec.{ltb, eqb}
 use Rattle.slices.specs.Choose.{choose, both}
-use Rattle.spectrum.specs.declared.Refusal.the-variants.{NothingToMove, StepDamaged}
-use Rattle.spectrum.specs.declared.Answer.the-variants.{Accepted}
+use Rattle.numbers.specs.declared.Refusal.the-variants.{NothingToMove, StepDamaged}
+use Rattle.numbers.specs.declared.Answer.the-variants.{Accepted}
 use Rattle.log_steps.specs.declared.Step.{Step}
 use Rattle.log_steps.specs.Steps.{stepAt, present, placed, intact}
 use Rattle.log_steps.specs.Session.{Session, CallResult, unchanged}

@@ -2,8 +2,8 @@
 use log_steps::Counts;
 use log_steps::Done;
 use log_steps::Step;
+use numbers::Refusal;
 use spectrum::Machine;
-use spectrum::Refusal;
 ghost use Prim.Native.Nat.{ℕ};
 ghost use mathlib.Core.Path.{_≡_};
 ghost use mathlib.Core.List.{List};

@@ -11,7 +11,7 @@ use Rattle.packed.specs.Packed.{Found, malformed, bytes, before, unpacked}
 use Rattle.packed.specs.Unpacking.{answerOf, leftBy, Unpacks}
 use Rattle.packed.specs.Inner.{Into}
 use Rattle.packed.proofs.Frame.{Frame}
-use Rattle.bytewise.proofs.UnpackSteps.{over-not-good}
+use Rattle.unpack_tail.proofs.UnpackSteps.{over-not-good}
 use Rattle.packed.specs.declared.Unpacked.{Unpacked}
 use Rattle.packed.specs.declared.Unpacked.the-variants.{Good, WrongLength, Malformed}
 

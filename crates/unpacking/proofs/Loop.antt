@@ -17,7 +17,7 @@ use Rattle.stores.specs.Stored.{Stored}
 use Rattle.packed.specs.declared.Unpacked.{Unpacked}
 use Rattle.packed.specs.declared.Unpacked.the-variants.{Malformed}
 use Rattle.packed.proofs.Frame.{Frame, frame-none, copied}
-use Rattle.bytewise.proofs.UnpackSteps.{zero-into, full-run, going-run}
+use Rattle.unpack_tail.proofs.UnpackSteps.{zero-into, full-run, going-run}
 
 -- the frame, and what was seen ahead
 pub record Unpacking (s d₀ d : List ℕ) (i o m : ℕ) : Type 0 where

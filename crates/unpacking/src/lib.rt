@@ -1,8 +1,8 @@
 // Unpacking. Where ED ED stands is looked up for 64 places at once, and the flags serve for every code among them.
-use bytewise::rest;
-use bytewise::unpack_rest;
 use codes::look;
 use packed::Unpacked;
+use unpack_tail::rest;
+use unpack_tail::unpack_rest;
 ghost use lib.ListN.{length};
 ghost use Rattle.packed.specs.Packed.{unpacked};
 ghost use Rattle.packed.specs.Unpacking.{Unpacks};

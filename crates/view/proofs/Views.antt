@@ -9,16 +9,16 @@ use lib.Dec.{ltb, eqb}
 use borrow.Author.Tests.{lt-ltb, le-ltb, ltb-true, ltb-false, eq-eqb, ne-eqb, eqb-true}
 use Rattle.slices.specs.Choose.{choose}
 use Rattle.spectrum.specs.declared.Machine.{Machine}
-use Rattle.spectrum.specs.declared.Model.{Model}
-use Rattle.spectrum.specs.declared.Model.the-variants.{K48, K128}
-use Rattle.spectrum.specs.declared.Refusal.{Refusal}
-use Rattle.spectrum.specs.declared.Refusal.the-variants.{InvalidMachine, MemoryLength, RomLength, PageNotOwned}
-use Rattle.spectrum.specs.declared.Answer.{Answer}
-use Rattle.spectrum.specs.declared.Answer.the-variants.{Accepted, Refused}
-use Rattle.spectrum.specs.Pages.{owned}
+use Rattle.pages.specs.declared.Model.{Model}
+use Rattle.pages.specs.declared.Model.the-variants.{K48, K128}
+use Rattle.numbers.specs.declared.Refusal.{Refusal}
+use Rattle.numbers.specs.declared.Refusal.the-variants.{InvalidMachine, MemoryLength, RomLength, PageNotOwned}
+use Rattle.numbers.specs.declared.Answer.{Answer}
+use Rattle.numbers.specs.declared.Answer.the-variants.{Accepted, Refused}
+use Rattle.pages.specs.Pages.{owned}
 use Rattle.spectrum.specs.Valid.{validOf}
 use Rattle.slices.proofs.Chosen.{not-flip}
-use Rattle.spectrum.proofs.Numbers.{refuse-not}
+use Rattle.numbers.proofs.Numbers.{refuse-not}
 use Rattle.view.specs.declared.Part.{Part}
 use Rattle.view.specs.declared.Part.the-variants.{Nowhere, InArea, InRom}
 use Rattle.view.specs.View.{romLength, romPages, hasPage, viewAnswer, partFor, partBytes, viewOf}

@@ -7,14 +7,14 @@ use lib.ListN.{length, take, drop}
 use lib.Dec.{ltb, eqb}
 use Rattle.slices.specs.Choose.{choose}
 use Rattle.spectrum.specs.declared.Machine.{Machine}
-use Rattle.spectrum.specs.declared.Model.{Model}
-use Rattle.spectrum.specs.declared.Model.the-variants.{K48, K128}
-use Rattle.spectrum.specs.declared.Refusal.the-variants.{InvalidMachine, MemoryLength, RomLength, PageNotOwned}
-use Rattle.spectrum.specs.declared.Answer.{Answer}
-use Rattle.spectrum.specs.declared.Answer.the-variants.{Accepted, Refused}
-use Rattle.spectrum.specs.Pages.{owned, pageIn}
+use Rattle.pages.specs.declared.Model.{Model}
+use Rattle.pages.specs.declared.Model.the-variants.{K48, K128}
+use Rattle.numbers.specs.declared.Refusal.the-variants.{InvalidMachine, MemoryLength, RomLength, PageNotOwned}
+use Rattle.numbers.specs.declared.Answer.{Answer}
+use Rattle.numbers.specs.declared.Answer.the-variants.{Accepted, Refused}
+use Rattle.pages.specs.Pages.{owned}
 use Rattle.spectrum.specs.Valid.{validOf}
-use Rattle.spectrum.specs.Numbers.{refuse}
+use Rattle.numbers.specs.Numbers.{refuse}
 use Rattle.view.specs.declared.Part.{Part}
 use Rattle.view.specs.declared.Part.the-variants.{Nowhere, InArea, InRom}
 

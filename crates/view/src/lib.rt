@@ -1,8 +1,8 @@
 // Viewing a page: where it lies, and the page itself as a part of the ROM or of the area.
-use spectrum::Answer;
+use numbers::Answer;
+use numbers::Refusal;
+use pages::Model;
 use spectrum::Machine;
-use spectrum::Model;
-use spectrum::Refusal;
 ghost use Prim.Native.Nat.{ℕ, _≤_, _<_};
 ghost use mathlib.Core.Path.{_≡_};
 ghost use lib.ListN.{length};
@@ -94,7 +94,7 @@ fn has_page(model: Model, page: u8) -> bool
 {
     let p = page as usize;
     if p < 8 {
-        return spectrum::pages::owns(model, p);
+        return pages::owns(model, p);
     }
     p < rom_pages(model)
 }

@@ -3,10 +3,10 @@ use Prim.Native.Nat.{ℕ}
 use mathlib.Core.Path.{_≡_, refl, ap, _∙_}
 use mathlib.Core.Bool.{true, false}
 use mathlib.Core.List.{List}
-use Rattle.spectrum.specs.declared.Answer.{Answer}
-use Rattle.spectrum.specs.declared.Answer.the-variants.{Refused}
-use Rattle.spectrum.specs.declared.Refusal.the-variants.{InvalidMachine}
-use Rattle.spectrum.specs.Numbers.{numberOf}
+use Rattle.numbers.specs.declared.Answer.{Answer}
+use Rattle.numbers.specs.declared.Answer.the-variants.{Refused}
+use Rattle.numbers.specs.declared.Refusal.the-variants.{InvalidMachine}
+use Rattle.numbers.specs.Numbers.{numberOf}
 use Rattle.header_canonical.specs.declared.DecodedHeader.{DecodedHeader}
 use Rattle.header_canonical.specs.Canonical.{decodedOf}
 use Rattle.view.specs.declared.Part.{Part}

@@ -1,6 +1,6 @@
 // A view over bytes: the machine crosses as its header.
-use spectrum::Answer;
-use spectrum::Refusal;
+use numbers::Answer;
+use numbers::Refusal;
 use view::Part;
 ghost use lib.ListN.{length};
 ghost use Rattle.view_bytes.specs.Views.{Shows, showOf};
@@ -26,19 +26,19 @@ pub fn view(
         let part = view::locate(m, rom.len(), area.len(), page);
         let answer = view::answer(m, rom.len(), area.len(), page);
         match part {
-            Part::Nowhere => return spectrum::number(answer),
+            Part::Nowhere => return numbers::number(answer),
             Part::InArea(from) => {
                 *start = from as u64;
                 *span = 16384;
-                return spectrum::number(answer);
+                return numbers::number(answer);
             }
             Part::InRom(from) => {
                 *in_rom = 1;
                 *start = from as u64;
                 *span = 16384;
-                return spectrum::number(answer);
+                return numbers::number(answer);
             }
         }
     }
-    spectrum::number(Answer::Refused(Refusal::InvalidMachine))
+    numbers::number(Answer::Refused(Refusal::InvalidMachine))
 }

@@ -1,4 +1,4 @@
-// The page that `view::view` returns, pageInto out under a C name, for tests only.
+// The page that `view::view` returns, copied out under a C name, for tests only.
 ghost use mathlib.Core.Path.{_≡_};
 ghost use lib.ListN.{length};
 ghost use Rattle.view_exports.specs.Viewed.{viewedOf, pageInto};

@@ -11,17 +11,16 @@ use Rattle.slices.specs.Choose.{choose}
 use Rattle.slices.specs.Bytes.{wordAt}
 use Rattle.slices.specs.Put.{put}
 use Rattle.slices.specs.Blank.{blank}
-use Rattle.packed.specs.Packed.{Found, malformed, unpacked}
-use Rattle.packed.specs.Packed.{bytes}
-use Rattle.spectrum.specs.declared.Model.{Model}
-use Rattle.spectrum.specs.declared.Model.the-variants.{K48, K128}
-use Rattle.spectrum.specs.declared.Refusal.{Refusal}
-use Rattle.spectrum.specs.declared.Refusal.the-variants.{BlockCut, BlockTwice, UnpackedLength, BlockMissing, EndMarker}
-use Rattle.spectrum.specs.Pages.{owned}
+use Rattle.packed.specs.Packed.{Found, malformed, unpacked, bytes}
+use Rattle.pages.specs.declared.Model.{Model}
+use Rattle.pages.specs.declared.Model.the-variants.{K48, K128}
+use Rattle.numbers.specs.declared.Refusal.{Refusal}
+use Rattle.numbers.specs.declared.Refusal.the-variants.{BlockCut, BlockTwice, UnpackedLength, BlockMissing, EndMarker}
+use Rattle.pages.specs.Pages.{owned}
 use Rattle.blocks.specs.declared.Page.{Page}
 use Rattle.blocks.specs.declared.Page.the-variants.{At, NoPage}
-use Rattle.blocks.specs.Blocks.{pageOf, allThere, Block, refused, brought, sizeOf, contents, pageFrom, onPage, blockOf, Reading, unread, readAs, afterBlock, finished, blocks, noneSeen, blocksInto}
-use Rattle.spectrum.proofs.Places.{owned-small}
+use Rattle.blocks.specs.Blocks.{pageOf, allThere, Block, refused, brought, sizeOf, contents, pageFrom, onPage, blockOf, BodyResult, bodyRefused, bodyRead, afterBlock, finished, blocks, noneSeen, blocksInto}
+use Rattle.pages.proofs.Places.{owned-small}
 use Rattle.blocks.proofs.Pages.{page-owned}
 use Rattle.body_v1.specs.Body.{spread, spreadFrom, marked, bodyInto}
 use Rattle.z80file.specs.Clean.{Clean}
@@ -32,9 +31,9 @@ GoodBlock model (refused why) = Unit {0}
 GoodBlock model (brought page xs rest) = (owned model page ≡ true) × ((page < 8) × (length xs ≡ 16384))
 
 -- an area that is given is clean
-abbrev pub Good : Model → Reading → Type 0
-Good model (unread why) = Unit {0}
-Good model (readAs a) = Clean model a
+abbrev pub Good : Model → BodyResult → Type 0
+Good model (bodyRefused why) = Unit {0}
+Good model (bodyRead a) = Clean model a
 
 good-refuse : (model : Model) (b : Bool) (why : Refusal) (x : Block) → GoodBlock model x → GoodBlock model (choose b (refused why) x)
 good-refuse model true why x g = tt
@@ -44,7 +43,7 @@ good-page : (model : Model) (d : Found) (page : ℕ) (rest : List ℕ) → owned
 good-page model malformed page rest o h = tt
 good-page model (bytes xs) page rest o h = go (eqb (length xs) 16384) refl
   where
-    go : (b : Bool) → eqb (length xs) 16384 ≡ b → GoodBlock model (choose (choose b false true) (refused UnpackedLength) (brought page xs rest))
+    go : (b : Bool) → eqb (length xs) 16384 ≡ b → GoodBlock model (choose b (brought page xs rest) (refused UnpackedLength))
     go true e = (o, (h, eqb-true _ _ e))
     go false e = tt
 
@@ -78,16 +77,16 @@ clean-put model a xs page s o h l =
         let w : true ≡ false = sym o ∙ ap (owned model) (sym q) ∙ e in
         let z : _≡_ {A = ℕ} 0 1 = cc in omega arith
 
-good-finished : (model : Model) (b : Bool) (a : List ℕ) → Clean model a → Good model (choose b (readAs a) (unread BlockMissing))
+good-finished : (model : Model) (b : Bool) (a : List ℕ) → Clean model a → Good model (choose b (bodyRead a) (bodyRefused BlockMissing))
 good-finished model true a s = s
 good-finished model false a s = tt
 
-good-then : (model : Model) (x : Block) (f : ℕ → List ℕ → List ℕ → Reading) → GoodBlock model x
+good-then : (model : Model) (x : Block) (f : ℕ → List ℕ → List ℕ → BodyResult) → GoodBlock model x
     → ((page : ℕ) (xs rest : List ℕ) → owned model page ≡ true → page < 8 → length xs ≡ 16384 → Good model (f page xs rest)) → Good model (afterBlock x f)
 good-then model (refused why) f g k = tt
 good-then model (brought page xs rest) f g k = k page xs rest (g .0) (g .1 .0) (g .1 .1)
 
-good-choose : (model : Model) (b : Bool) (x y : Reading) → Good model x → Good model y → Good model (choose b x y)
+good-choose : (model : Model) (b : Bool) (x y : BodyResult) → Good model x → Good model y → Good model (choose b x y)
 good-choose model true x y g h = g
 good-choose model false x y g h = h
 
@@ -95,7 +94,7 @@ good-turns : (model : Model) (turns : ℕ) (seen : List Bool) (a s : List ℕ) �
 unfolding blocks
 good-turns model zero seen a s k = good-finished model (allThere model seen) a k
 good-turns model (suc turns) seen a s k =
-    let on : ℕ → List ℕ → List ℕ → Reading = λ page xs rest. blocks model turns (set seen page true) (put a (page * 16384) xs) rest in
+    let on : ℕ → List ℕ → List ℕ → BodyResult = λ page xs rest. blocks model turns (set seen page true) (put a (page * 16384) xs) rest in
     good-choose model (eqb (length s) 0) (finished model seen a) (afterBlock (blockOf model seen s) on) (good-finished model (allThere model seen) a k)
     (good-then model (blockOf model seen s) on (good-block model seen s)
     (λ page xs rest o h l. good-turns model turns (set seen page true) (put a (page * 16384) xs) rest (clean-put model a xs page k o h l)))
@@ -127,11 +126,11 @@ good-spread : (f : Found) → Good K48 (spreadFrom f (blank 131072))
 good-spread malformed = tt
 good-spread (bytes xs) = go (eqb (length xs) 49152) refl
   where
-    go : (b : Bool) → eqb (length xs) 49152 ≡ b → Good K48 (choose b (readAs (spread (blank 131072) xs)) (unread UnpackedLength))
+    go : (b : Bool) → eqb (length xs) 49152 ≡ b → Good K48 (choose b (bodyRead (spread (blank 131072) xs)) (bodyRefused UnpackedLength))
     go true e = clean-spread xs (eqb-true _ _ e)
     go false e = tt
 
 pub good-body : (p : Bool) (s : List ℕ) → Good K48 (bodyInto p (blank 131072) s)
 unfolding bodyInto
-good-body true s = good-choose K48 (marked s) (spreadFrom (unpacked (take (length s - 4) s)) (blank 131072)) (unread EndMarker) (good-spread (unpacked (take (length s - 4) s))) tt
+good-body true s = good-choose K48 (marked s) (spreadFrom (unpacked (take (length s - 4) s)) (blank 131072)) (bodyRefused EndMarker) (good-spread (unpacked (take (length s - 4) s))) tt
 good-body false s = good-spread (bytes s)

@@ -1,4 +1,4 @@
--- Reading the blocks that the writer lays down gives the area back. Of the packing crate only `unpacked-packed` is used.
+-- Reading the blocks that the writer lays down gives the area back. Of `packed` only `unpacked-packed` is used.
 use Prim.Native.Nat.{ℕ, zero, suc, _+_, _-_, _*_, _/_, _%_, _<_, _≤_}
 use mathlib.Core.Path.{_≡_, refl, sym, ap, _∙_}
 use mathlib.Core.Bool.{Bool, true, false}
@@ -12,22 +12,21 @@ use Rattle.slices.specs.Choose.{choose}
 use Rattle.slices.specs.Bytes.{wordAt}
 use Rattle.slices.specs.Put.{put}
 use Rattle.slices.specs.Blank.{blank}
-use Rattle.packed.specs.Packed.{bytes}
-use Rattle.packed.specs.Packed.{packed}
+use Rattle.packed.specs.Packed.{bytes, packed}
 use Rattle.packed.specs.Packed.Promise.{unpacked-packed}
-use Rattle.spectrum.specs.declared.Model.{Model}
-use Rattle.spectrum.specs.declared.Model.the-variants.{K48, K128}
-use Rattle.spectrum.specs.declared.Refusal.the-variants.{BlockMissing}
-use Rattle.spectrum.specs.Pages.{slots, pageAmong, owned, pageIn}
+use Rattle.pages.specs.declared.Model.{Model}
+use Rattle.pages.specs.declared.Model.the-variants.{K48, K128}
+use Rattle.numbers.specs.declared.Refusal.the-variants.{BlockMissing}
+use Rattle.pages.specs.Pages.{slots, pageAmong, owned, pageIn}
 use Rattle.blocks.specs.declared.Page.the-variants.{At}
-use Rattle.blocks.specs.Blocks.{pageOf, allThere, Block, brought, sizeOf, contents, onPage, blockOf, readAs, unread, afterBlock, finished, blocks, noneSeen, blocksInto}
+use Rattle.blocks.specs.Blocks.{pageOf, allThere, Block, brought, sizeOf, contents, onPage, blockOf, bodyRead, bodyRefused, afterBlock, finished, blocks, noneSeen, blocksInto}
 use Rattle.blocks.proofs.Turns.{turn, ended}
-use Rattle.spectrum.specs.declared.Slot.{Slot}
+use Rattle.pages.specs.declared.Slot.{Slot}
 use Rattle.z80write.specs.Written.{blockFor, laid}
 use Rattle.z80file.specs.Clean.{Clean}
 use Rattle.z80file.proofs.Places.{page-at, put-long, put-here, put-elsewhere, blank-at, blank-long}
 
--- the block at the front of a list that holds it readAs
+-- the block at the front of a list that holds it whole
 front : (model : Model) (seen : List Bool) (s : List ℕ) (n size : ℕ) → wordAt s 0 ≡ n → size ≡ sizeOf n → 3 + size ≤ length s
     → blockOf model seen s ≡ onPage (pageOf model (getD s 2 0)) seen (contents (eqb n 65535) (take size (drop 3 s))) (drop (3 + size) s)
 unfolding blockOf
@@ -221,11 +220,11 @@ same-area model t last s l g = ext-getD 0 last t (l ∙ sym (s .long)) (λ i h. 
     go i h false e = g i h ∙ rw (seen-owned model (i / 16384) (omega arith), e) (blank-at 131072 i h ∙ sym (s .clear i h e))
 
 -- the round trip of the blocks
-pub blocks-back : (model : Model) (area : List ℕ) → Clean model area → blocksInto model (blank 131072) (laid (slots model) area) ≡ readAs area
+pub blocks-back : (model : Model) (area : List ℕ) → Clean model area → blocksInto model (blank 131072) (laid (slots model) area) ≡ bodyRead area
 unfolding blocksInto
 blocks-back model area s =
     let r = reads model area (s .long) (slots model) (length (laid (slots model) area)) noneSeen (blank 131072) (omega arith) (fresh model) refl (blank-long 131072) (none-seen area) in
     let e : r .last ≡ area = same-area model area (r .last) s (r .long) (r .agree) in
     r .reading
-    ∙ ap (λ (b : Bool). choose b (readAs (r .last)) (unread BlockMissing)) (there model)
-    ∙ ap readAs e
+    ∙ ap (λ (b : Bool). choose b (bodyRead (r .last)) (bodyRefused BlockMissing)) (there model)
+    ∙ ap bodyRead e

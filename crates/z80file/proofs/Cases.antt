@@ -2,7 +2,7 @@
 use mathlib.Core.Path.{_≡_, refl}
 use mathlib.Core.List.{List, [], _∷_, _++_, map}
 use Rattle.packed.specs.Packed.Examples as P
-use Rattle.spectrum.specs.declared.Model.the-variants.{K48}
+use Rattle.pages.specs.declared.Model.the-variants.{K48}
 use Rattle.z80file.specs.Cases.{Case, packing, clock, found, caseComputed, caseExpected, caseTable}
 
 with-packing : (xs : List P.Example) (rest : List Case) → map P.computed xs ≡ map P.expected xs → map caseComputed rest ≡ map caseExpected rest

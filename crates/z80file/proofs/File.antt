@@ -11,14 +11,14 @@ use borrow.Author.Tests.{leb-true, eqb-true}
 use Rattle.slices.specs.Choose.{choose}
 use Rattle.slices.specs.Blank.{blank}
 use Rattle.spectrum.specs.declared.Machine.{Machine}
-use Rattle.spectrum.specs.declared.Model.{Model}
-use Rattle.spectrum.specs.declared.Model.the-variants.{K48}
+use Rattle.pages.specs.declared.Model.{Model}
+use Rattle.pages.specs.declared.Model.the-variants.{K48}
 use Rattle.spectrum.specs.declared.Attachment.{Attachment}
-use Rattle.spectrum.specs.declared.Refusal.the-variants.{AreaLength, InvalidMachine, MemoryLength, OutputShort}
-use Rattle.spectrum.specs.declared.Answer.the-variants.{Accepted}
+use Rattle.numbers.specs.declared.Refusal.the-variants.{AreaLength, InvalidMachine, MemoryLength, OutputShort}
+use Rattle.numbers.specs.declared.Answer.the-variants.{Accepted}
 use Rattle.spectrum.specs.Valid.{Typed, validOf}
 use Rattle.spectrum.proofs.Validity.{valid-says}
-use Rattle.spectrum.proofs.Numbers.{refused-not}
+use Rattle.numbers.proofs.Numbers.{refused-not}
 use Rattle.header.specs.declared.Version.{Version}
 use Rattle.header.specs.declared.Version.the-variants.{V1, V2, V3}
 use Rattle.header.specs.declared.Head.{Head}
@@ -32,10 +32,10 @@ use Rattle.header_canonical.proofs.Back.{machine-back}
 use Rattle.header.proofs.Opened.{opens}
 use Rattle.header_read.proofs.Valid.{machine-valid}
 use Rattle.header_canonical.proofs.HeadBack.{head-back}
-use Rattle.blocks.specs.Blocks.{Reading, unread, readAs, blocksInto}
-use Rattle.z80read.specs.Read.{memoryInto, ReadResult, refusedRead, readResult, afterHead, readOf}
+use Rattle.blocks.specs.Blocks.{BodyResult, bodyRefused, bodyRead, blocksInto}
+use Rattle.z80read.specs.Read.{memoryInto, ReadResult, refusedRead, afterBody, afterHead, readOf}
 use Rattle.z80write.specs.declared.Written.{Written}
-use Rattle.spectrum.specs.Pages.{slots}
+use Rattle.pages.specs.Pages.{slots}
 use Rattle.z80write.specs.Written.{laid, fileOf, WriteResult, refusedWrite, acceptedWrite, writtenOf, Writes}
 use Rattle.z80file.specs.Clean.{Clean, ReadGives}
 use Rattle.z80file.proofs.Back.{blocks-back}
@@ -48,10 +48,10 @@ unfolding readOf
 file-back m area t h c =
     let v = valid-says m (t .sound) h in
     let rest = laid (slots (m .model)) area in
-    let b : blocksInto (m .model) (blank 131072) (drop 86 (fileOf m area)) ≡ readAs area =
+    let b : blocksInto (m .model) (blank 131072) (drop 86 (fileOf m area)) ≡ bodyRead area =
     ap (blocksInto (m .model) (blank 131072)) (drop-at (headerOf m) rest 86 (header-length m t)) ∙ blocks-back (m .model) area c in
     ap (λ (x : Head). afterHead x (fileOf m area) 131072) (head-back m rest t v)
-    ∙ ap (λ (x : Reading). readResult x (machineOf V3 (m .model) (m .attachment) (fileOf m area)) 131072) b
+    ∙ ap (λ (x : BodyResult). afterBody x (machineOf V3 (m .model) (m .attachment) (fileOf m area)) 131072) b
     ∙ ap (λ (x : Machine). record { answer = Accepted; machine = x; memory = area }) (machine-back m rest t v)
 
 -- what an accepted write left begins with the file
@@ -97,11 +97,11 @@ model-is : (v : Version) (model : Model) (a : Attachment) (s : List ℕ) → mac
 unfolding machineOf
 model-is v model a s = refl
 
-started : (s : List ℕ) (n : ℕ) (v : Version) (model : Model) (a : Attachment) (x : Reading) → n ≡ 131072 → headOf s ≡ Header v model a → Good model x
-    → readResult x (machineOf v model a s) n .answer ≡ Accepted
-    → ReadGives (readResult x (machineOf v model a s) n .machine) (readResult x (machineOf v model a s) n .memory) n
-started s n v model a (unread w) l e g h = absurd (refused-not w h)
-started s n v model a (readAs area) l e g h =
+started : (s : List ℕ) (n : ℕ) (v : Version) (model : Model) (a : Attachment) (x : BodyResult) → n ≡ 131072 → headOf s ≡ Header v model a → Good model x
+    → afterBody x (machineOf v model a s) n .answer ≡ Accepted
+    → ReadGives (afterBody x (machineOf v model a s) n .machine) (afterBody x (machineOf v model a s) n .memory) n
+started s n v model a (bodyRefused w) l e g h = absurd (refused-not w h)
+started s n v model a (bodyRead area) l e g h =
     record {
       whole-area = l;
       valid = machine-valid s v model a e;

@@ -11,7 +11,7 @@ use lib.Seq.{getD-take, getD-drop}
 use Rattle.slices.specs.Put.{put}
 use Rattle.slices.proofs.Puts.{length-put, put-in, put-below, put-above}
 use Rattle.slices.specs.Blank.{blank}
-use Rattle.spectrum.specs.Pages.{pageIn}
+use Rattle.pages.specs.Pages.{pageIn}
 
 in-page : (i page : ℕ) → i / 16384 ≡ page → page * 16384 + i % 16384 ≡ i
 in-page i page q = omega arith

@@ -8,21 +8,21 @@ use lib.ListN.{length, take, replicate}
 use lib.Seq.{take-at, drop-at}
 use Rattle.slices.specs.Blank.{blank}
 use Rattle.spectrum.specs.declared.Machine.{Machine}
-use Rattle.spectrum.specs.declared.Refusal.the-variants.{FileShort, BlockMissing}
-use Rattle.spectrum.specs.declared.Answer.the-variants.{Refused}
+use Rattle.numbers.specs.declared.Refusal.the-variants.{FileShort, BlockMissing}
+use Rattle.numbers.specs.declared.Answer.the-variants.{Refused}
 use Rattle.spectrum.specs.Machine.{withOut}
-use Rattle.spectrum.specs.Pages.{slots}
+use Rattle.pages.specs.Pages.{slots}
 use Rattle.spectrum.specs.Valid.{Typed, validOf}
 use Rattle.spectrum.proofs.Validity.{valid-says}
-use Rattle.spectrum.proofs.Numbers.{refused-not}
+use Rattle.numbers.proofs.Numbers.{refused-not}
 use Rattle.header.specs.declared.Version.the-variants.{V3}
 use Rattle.header.specs.declared.Head.{Head}
 use Rattle.header_read.specs.Reading.{machineOf}
 use Rattle.header_write.specs.Writing.{headerOf}
 use Rattle.header_write.proofs.WriteSteps.{header-length}
 use Rattle.header_canonical.proofs.HeadBack.{head-back}
-use Rattle.blocks.specs.Blocks.{Reading, unread, allThere, blocks, blocksInto}
-use Rattle.z80read.specs.Read.{ReadResult, readResult, afterHead, readOf}
+use Rattle.blocks.specs.Blocks.{BodyResult, bodyRefused, allThere, blocks, blocksInto}
+use Rattle.z80read.specs.Read.{ReadResult, afterBody, afterHead, readOf}
 use Rattle.z80write.specs.Written.{laid, fileOf, WriteResult, writtenOf}
 use Rattle.z80write.proofs.Whole.{room}
 use Rattle.z80write.proofs.Longest.{file-most}
@@ -65,7 +65,7 @@ refuted-fixed-machine fixed h =
     omega arith
 
 -- of no blocks all eight are missing
-no-blocks : blocksInto (sample .model) (blank 131072) [] ≡ unread BlockMissing
+no-blocks : blocksInto (sample .model) (blank 131072) [] ≡ bodyRefused BlockMissing
 unfolding sample blocksInto blocks allThere
 no-blocks = refl
 
@@ -74,9 +74,9 @@ header-alone : readOf (headerOf sample ++ []) 131072 .answer ≡ Refused BlockMi
 unfolding readOf
 header-alone =
     ap (λ (x : Head). afterHead x (headerOf sample ++ []) 131072 .answer) (head-back sample [] sample-typed (valid-says sample (sample-typed .sound) sample-valid))
-    ∙ ap (λ (x : List ℕ). readResult (blocksInto (sample .model) (blank 131072) x) (machineOf V3 (sample .model) (sample .attachment) (headerOf sample ++ [])) 131072 .answer)
+    ∙ ap (λ (x : List ℕ). afterBody (blocksInto (sample .model) (blank 131072) x) (machineOf V3 (sample .model) (sample .attachment) (headerOf sample ++ [])) 131072 .answer)
     (drop-at (headerOf sample) [] 86 (header-length sample sample-typed))
-    ∙ ap (λ (x : Reading). readResult x (machineOf V3 (sample .model) (sample .attachment) (headerOf sample ++ [])) 131072 .answer) no-blocks
+    ∙ ap (λ (x : BodyResult). afterBody x (machineOf V3 (sample .model) (sample .attachment) (headerOf sample ++ [])) 131072 .answer) no-blocks
 
 -- the first 86 bytes of what is written are the header
 front : take 86 (writtenOf sample area 131182 .out) ≡ headerOf sample ++ []

@@ -5,7 +5,7 @@ use mathlib.Core.Bool.{true, false}
 use native.Mathlib.Omega.{arith}
 use lib.ListN.{getD, replicate}
 use Rattle.spectrum.specs.declared.Machine.{Machine}
-use Rattle.spectrum.specs.declared.Model.the-variants.{K128}
+use Rattle.pages.specs.declared.Model.the-variants.{K128}
 use Rattle.spectrum.specs.declared.Attachment.the-variants.{Nothing}
 use Rattle.spectrum.specs.declared.Video.the-variants.{Normal}
 use Rattle.spectrum.specs.Valid.{Typed, validOf}

@@ -3,9 +3,9 @@ use Prim.Native.Nat.{ℕ}
 use mathlib.Core.List.{List, [], _∷_, _++_, map}
 use Rattle.packed.specs.Packed.{Found}
 use Rattle.packed.specs.Packed.Examples as P
-use Rattle.spectrum.specs.declared.Model.{Model}
-use Rattle.spectrum.specs.declared.Model.the-variants.{K48}
-use Rattle.spectrum.specs.Clock.{positionOf}
+use Rattle.pages.specs.declared.Model.{Model}
+use Rattle.pages.specs.declared.Model.the-variants.{K48}
+use Rattle.clock.specs.Clock.{positionOf}
 
 -- a packing example, or a model, its low and high counter and the frame position
 pub data Case : Type 0 where

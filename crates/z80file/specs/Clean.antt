@@ -5,8 +5,8 @@ use mathlib.Core.Bool.{true, false}
 use mathlib.Core.List.{List}
 use lib.ListN.{length, getD}
 use Rattle.spectrum.specs.declared.Machine.{Machine}
-use Rattle.spectrum.specs.declared.Model.{Model}
-use Rattle.spectrum.specs.Pages.{owned}
+use Rattle.pages.specs.declared.Model.{Model}
+use Rattle.pages.specs.Pages.{owned}
 use Rattle.spectrum.specs.Valid.{validOf}
 
 -- 131,072 bytes; each byte of a page that the machine does not own is 0

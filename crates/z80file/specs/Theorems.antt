@@ -4,9 +4,9 @@ use mathlib.Core.Path.{_≡_}
 use mathlib.Core.Bool.{true}
 use mathlib.Core.List.{List, map}
 use Rattle.spectrum.specs.declared.Machine.{Machine}
-use Rattle.spectrum.specs.declared.Model.{Model}
-use Rattle.spectrum.specs.declared.Answer.the-variants.{Accepted}
-use Rattle.spectrum.specs.Pages.{owned}
+use Rattle.pages.specs.declared.Model.{Model}
+use Rattle.numbers.specs.declared.Answer.the-variants.{Accepted}
+use Rattle.pages.specs.Pages.{owned}
 use Rattle.spectrum.specs.Valid.{Typed, validOf}
 use Rattle.blocks.specs.declared.Page.the-variants.{At}
 use Rattle.blocks.specs.Blocks.{pageOf}

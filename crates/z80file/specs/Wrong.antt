@@ -2,7 +2,7 @@
 use Prim.Native.Nat.{ℕ}
 use mathlib.Core.List.{List}
 use Rattle.spectrum.specs.declared.Machine.{Machine}
-use Rattle.spectrum.specs.declared.Refusal.the-variants.{FileShort}
+use Rattle.numbers.specs.declared.Refusal.the-variants.{FileShort}
 use Rattle.z80read.specs.Read.{ReadResult, refusedRead, readOf}
 use Rattle.z80write.specs.Written.{WriteResult, writtenOf}
 

@@ -9,8 +9,8 @@ use lib.Seq.{getD-drop}
 use Rattle.slices.specs.Blank.{blank}
 use Rattle.slices.proofs.Chosen.{either}
 use Rattle.spectrum.specs.declared.Machine.{Machine}
-use Rattle.spectrum.specs.declared.Model.{Model}
-use Rattle.spectrum.specs.declared.Answer.the-variants.{Accepted}
+use Rattle.pages.specs.declared.Model.{Model}
+use Rattle.numbers.specs.declared.Answer.the-variants.{Accepted}
 use Rattle.header.specs.declared.Version.{Version}
 use Rattle.header.specs.declared.Version.the-variants.{V1, V2, V3}
 use Rattle.header.specs.declared.Head.{Head}
@@ -18,23 +18,23 @@ use Rattle.header.specs.declared.Head.the-variants.{Header}
 use Rattle.slices.specs.Bytes.{bitAt}
 use Rattle.header.specs.Heads.{byte12Of, headOf}
 use Rattle.header_read.specs.Reading.{machineOf}
-use Rattle.blocks.specs.Blocks.{Reading, unread, readAs, blocksInto}
+use Rattle.blocks.specs.Blocks.{BodyResult, bodyRefused, bodyRead, blocksInto}
 use Rattle.blocks.proofs.Lengths.{blocks-most}
 use Rattle.body_v1.proofs.Lengths.{body-most}
-use Rattle.z80read.specs.Read.{memoryInto, ReadResult, readResult, afterHead, readOf}
+use Rattle.z80read.specs.Read.{memoryInto, ReadResult, afterBody, afterHead, readOf}
 
 module _ (s : List ℕ) (n : ℕ) (w : (i : ℕ) → getD s i 0 < 256) where
-  blocks-after : (k : ℕ) (model : Model) (area a : List ℕ) → k ≤ 86 → blocksInto model area (drop k s) ≡ readAs a → length s ≤ 524382
+  blocks-after : (k : ℕ) (model : Model) (area a : List ℕ) → k ≤ 86 → blocksInto model area (drop k s) ≡ bodyRead a → length s ≤ 524382
   blocks-after k model area a h e = omega (arith, blocks-most model area (drop k s) a (λ i. rw (getD-drop k s i 0) (w (k + i))) e, length-drop k s)
 
-  memory-most : (v : Version) (model : Model) (area a : List ℕ) → memoryInto v model area s ≡ readAs a → length s ≤ 524382
+  memory-most : (v : Version) (model : Model) (area a : List ℕ) → memoryInto v model area s ≡ bodyRead a → length s ≤ 524382
   memory-most V1 model area a e = omega (arith, body-most (bitAt (byte12Of s) 32) area (drop 30 s) a e, length-drop 30 s)
   memory-most V2 model area a e = blocks-after 55 model area a (omega arith) e
   memory-most V3 model area a e = blocks-after 86 model area a (omega arith) e
 
-  result-most : (x : Reading) (m : Machine) → ((a : List ℕ) → x ≡ readAs a → length s ≤ 524382) → readResult x m n .answer ≡ Accepted → length s ≤ 524382
-  result-most (unread why) m f e = let z : _≡_ {A = ℕ} 0 1 = cc in absurd (omega arith)
-  result-most (readAs a) m f e = f a refl
+  result-most : (x : BodyResult) (m : Machine) → ((a : List ℕ) → x ≡ bodyRead a → length s ≤ 524382) → afterBody x m n .answer ≡ Accepted → length s ≤ 524382
+  result-most (bodyRefused why) m f e = let z : _≡_ {A = ℕ} 0 1 = cc in absurd (omega arith)
+  result-most (bodyRead a) m f e = f a refl
 
   head-most : (h : Head) → afterHead h s n .answer ≡ Accepted → length s ≤ 524382
   head-most (Head.Refused why) e = let z : _≡_ {A = ℕ} 0 1 = cc in absurd (omega arith)

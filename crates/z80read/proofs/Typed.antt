@@ -8,22 +8,22 @@ use lib.Dec.{eqb}
 use Rattle.slices.specs.Choose.{choose}
 use Rattle.slices.specs.Blank.{blank}
 use Rattle.spectrum.specs.declared.Machine.{Machine}
-use Rattle.spectrum.specs.declared.Refusal.the-variants.{AreaLength}
-use Rattle.spectrum.specs.declared.Answer.the-variants.{Accepted}
+use Rattle.numbers.specs.declared.Refusal.the-variants.{AreaLength}
+use Rattle.numbers.specs.declared.Answer.the-variants.{Accepted}
 use Rattle.spectrum.specs.Valid.{Typed}
-use Rattle.spectrum.proofs.Numbers.{refused-not}
+use Rattle.numbers.proofs.Numbers.{refused-not}
 use Rattle.header.specs.declared.Head.{Head}
 use Rattle.header.specs.declared.Head.the-variants.{Header}
 use Rattle.header_read.specs.Reading.{machineOf}
 use Rattle.header.specs.Heads.{headOf}
 use Rattle.header.proofs.Opened.{opens}
 use Rattle.header_read.proofs.Typed.{machine-typed}
-use Rattle.blocks.specs.Blocks.{Reading, unread, readAs}
-use Rattle.z80read.specs.Read.{ReadResult, memoryInto, refusedRead, readResult, afterHead, readOf}
+use Rattle.blocks.specs.Blocks.{BodyResult, bodyRefused, bodyRead}
+use Rattle.z80read.specs.Read.{ReadResult, memoryInto, refusedRead, afterBody, afterHead, readOf}
 
-result-typed : (x : Reading) (m : Machine) (n : ℕ) → Typed m → readResult x m n .answer ≡ Accepted → Typed (readResult x m n .machine)
-result-typed (unread w) m n t e = absurd (refused-not w e)
-result-typed (readAs area) m n t e = t
+result-typed : (x : BodyResult) (m : Machine) (n : ℕ) → Typed m → afterBody x m n .answer ≡ Accepted → Typed (afterBody x m n .machine)
+result-typed (bodyRefused w) m n t e = absurd (refused-not w e)
+result-typed (bodyRead area) m n t e = t
 
 pub read-typed : (s : List ℕ) (n : ℕ) → ((i : ℕ) → getD s i 0 < 256) → readOf s n .answer ≡ Accepted → Typed (readOf s n .machine)
 unfolding readOf

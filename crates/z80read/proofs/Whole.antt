@@ -10,12 +10,12 @@ use borrow.Author.Tests.{eq-eqb, ne-eqb}
 use Rattle.slices.specs.Blank.{blank}
 use Rattle.slices.proofs.Fills.{cleared-whole}
 use Rattle.spectrum.specs.declared.Machine.{Machine}
-use Rattle.spectrum.specs.declared.Model.{Model}
+use Rattle.pages.specs.declared.Model.{Model}
 use Rattle.spectrum.specs.declared.Attachment.{Attachment}
-use Rattle.spectrum.specs.declared.Refusal.{Refusal}
-use Rattle.spectrum.specs.declared.Refusal.the-variants.{AreaLength}
-use Rattle.spectrum.specs.declared.Answer.{Answer}
-use Rattle.spectrum.specs.declared.Answer.the-variants.{Accepted, Refused}
+use Rattle.numbers.specs.declared.Refusal.{Refusal}
+use Rattle.numbers.specs.declared.Refusal.the-variants.{AreaLength}
+use Rattle.numbers.specs.declared.Answer.{Answer}
+use Rattle.numbers.specs.declared.Answer.the-variants.{Accepted, Refused}
 use Rattle.spectrum.specs.Machine.{blankMachine}
 use Rattle.spectrum.specs.Valid.{validOf}
 use Rattle.header.specs.declared.Version.{Version}
@@ -28,10 +28,10 @@ use Rattle.header.specs.Inner.{Readable}
 use Rattle.header.proofs.HeadSteps.{long-30}
 use Rattle.header.proofs.Opened.{opens}
 use Rattle.header_read.proofs.Valid.{machine-valid}
-use Rattle.blocks.specs.Blocks.{Reading, unread, readAs, ReadsBody, blocksInto}
+use Rattle.blocks.specs.Blocks.{BodyResult, bodyRefused, bodyRead, ReadsBody, blocksInto}
 use Rattle.body_v1.specs.Body.{bodyInto}
 use Rattle.z80read.specs.declared.Opened.{Opened}
-use Rattle.z80read.specs.Read.{memoryInto, ReadResult, refusedRead, readResult, afterHead, readOf, ReadLeaves, Reads}
+use Rattle.z80read.specs.Read.{memoryInto, ReadResult, refusedRead, afterBody, afterHead, readOf, ReadLeaves, Reads}
 
 -- what a refused read gives beside the area
 abbrev refusedOpened : Refusal → Opened
@@ -55,27 +55,27 @@ pub at-12 : (v : Version) (n : ℕ) → headerLength v ≤ n → 12 < n
 at-12 v n h = let k = long-30 v n h in omega arith
 
 -- the answer of what follows the header decides
-module _ (x : Reading) (m : Machine) (n : ℕ) (answer : Answer) (after : List ℕ) (t : ReadsBody x answer after) where
-  pub on-refused : (why : Refusal) (r : Opened) → answer ≡ Refused why → r ≡ refusedOpened why → n ≡ 131072 → ReadLeaves (readResult x m n) r after
+module _ (x : BodyResult) (m : Machine) (n : ℕ) (answer : Answer) (after : List ℕ) (t : ReadsBody x answer after) where
+  pub on-refused : (why : Refusal) (r : Opened) → answer ≡ Refused why → r ≡ refusedOpened why → n ≡ 131072 → ReadLeaves (afterBody x m n) r after
   unfolding blank
   on-refused why r e q l = go x t
     where
-      go : (x : Reading) → ReadsBody x answer after → ReadLeaves (readResult x m n) r after
-      go (unread w) t =
+      go : (x : BodyResult) → ReadsBody x answer after → ReadLeaves (afterBody x m n) r after
+      go (bodyRefused w) t =
           let z : Refused w ≡ Refused why = sym (t .0) ∙ e in
           record {
             answer = ap (λ (o : Opened). o .answer) q ∙ sym z;
             machine = ap (λ (o : Opened). o .machine) q;
             memory = t .1 ∙ sym (ap (λ (k : ℕ). replicate k 0) l);
           }
-      go (readAs a) t = absurd (never why (sym e ∙ t .0))
+      go (bodyRead a) t = absurd (never why (sym e ∙ t .0))
 
-  pub on-accepted : (machine : Machine) (r : Opened) → answer ≡ Accepted → machine ≡ m → r .answer ≡ Accepted → r .machine ≡ machine → ReadLeaves (readResult x m n) r after
+  pub on-accepted : (machine : Machine) (r : Opened) → answer ≡ Accepted → machine ≡ m → r .answer ≡ Accepted → r .machine ≡ machine → ReadLeaves (afterBody x m n) r after
   on-accepted machine r e q a b = go x t
     where
-      go : (x : Reading) → ReadsBody x answer after → ReadLeaves (readResult x m n) r after
-      go (unread w) t = absurd (never w (sym (t .0) ∙ e))
-      go (readAs area) t = record { answer = a; machine = b ∙ q; memory = t .1 }
+      go : (x : BodyResult) → ReadsBody x answer after → ReadLeaves (afterBody x m n) r after
+      go (bodyRefused w) t = absurd (never w (sym (t .0) ∙ e))
+      go (bodyRead area) t = record { answer = a; machine = b ∙ q; memory = t .1 }
 
 -- a refusal is not accepted, so nothing is said of its machine
 no-machine : (o : ReadResult) (why : Refusal) (r : Opened) (area : List ℕ) → ReadLeaves o r area → r .answer ≡ Refused why → Reads o r area
@@ -119,18 +119,18 @@ module _ (s before clear : List ℕ) (c₀ : clear ≡ take 0 before ++ replicat
       read-readable = opens s head v model a eh e .readable
 
       pub read-on : (r : Opened) (area : List ℕ)
-          → ReadLeaves (readResult (memoryInto v model clear s) (machineOf v model a s) (length clear)) r area → Reads (readOf s (length before)) r area
+          → ReadLeaves (afterBody (memoryInto v model clear s) (machineOf v model a s) (length clear)) r area → Reads (readOf s (length before)) r area
       read-on r area l =
           let x = memoryInto v model (blank 131072) s in
-          let p : readResult (memoryInto v model clear s) (machineOf v model a s) (length clear) ≡ readResult x (machineOf v model a s) (length before) =
-          ap (λ (z : List ℕ). readResult (memoryInto v model z s) (machineOf v model a s) (length clear)) is-blank
-          ∙ ap (readResult x (machineOf v model a s)) long in
-          let q : readResult x (machineOf v model a s) (length before) ≡ readOf s (length before) = sym (ap (λ (z : Head). afterHead z s (length before)) e) ∙ opened in
+          let p : afterBody (memoryInto v model clear s) (machineOf v model a s) (length clear) ≡ afterBody x (machineOf v model a s) (length before) =
+          ap (λ (z : List ℕ). afterBody (memoryInto v model z s) (machineOf v model a s) (length clear)) is-blank
+          ∙ ap (afterBody x (machineOf v model a s)) long in
+          let q : afterBody x (machineOf v model a s) (length before) ≡ readOf s (length before) = sym (ap (λ (z : Head). afterHead z s (length before)) e) ∙ opened in
           record {
             leaves = subst (λ (o : ReadResult). ReadLeaves o r area) (p ∙ q) l;
             valid = λ g. valid x (subst (λ (o : ReadResult). ReadLeaves o r area) p l) g;
           }
         where
-          valid : (x : Reading) → ReadLeaves (readResult x (machineOf v model a s) (length before)) r area → r .answer ≡ Accepted → validOf (r .machine) ≡ true
-          valid (unread w) l g = absurd (never w (sym (l .answer) ∙ g))
-          valid (readAs m) l g = ap validOf (l .machine) ∙ machine-valid s v model a (sym eh ∙ e)
+          valid : (x : BodyResult) → ReadLeaves (afterBody x (machineOf v model a s) (length before)) r area → r .answer ≡ Accepted → validOf (r .machine) ≡ true
+          valid (bodyRefused w) l g = absurd (never w (sym (l .answer) ∙ g))
+          valid (bodyRead m) l g = ap validOf (l .machine) ∙ machine-valid s v model a (sym eh ∙ e)

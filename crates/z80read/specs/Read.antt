@@ -9,11 +9,11 @@ use lib.Dec.{eqb}
 use Rattle.slices.specs.Choose.{choose}
 use Rattle.slices.specs.Blank.{blank}
 use Rattle.spectrum.specs.declared.Machine.{Machine}
-use Rattle.spectrum.specs.declared.Model.{Model}
-use Rattle.spectrum.specs.declared.Refusal.{Refusal}
-use Rattle.spectrum.specs.declared.Refusal.the-variants.{AreaLength}
-use Rattle.spectrum.specs.declared.Answer.{Answer}
-use Rattle.spectrum.specs.declared.Answer.the-variants.{Accepted, Refused}
+use Rattle.pages.specs.declared.Model.{Model}
+use Rattle.numbers.specs.declared.Refusal.{Refusal}
+use Rattle.numbers.specs.declared.Refusal.the-variants.{AreaLength}
+use Rattle.numbers.specs.declared.Answer.{Answer}
+use Rattle.numbers.specs.declared.Answer.the-variants.{Accepted, Refused}
 use Rattle.spectrum.specs.Machine.{blankMachine}
 use Rattle.spectrum.specs.Valid.{validOf}
 use Rattle.header.specs.declared.Version.{Version}
@@ -23,12 +23,12 @@ use Rattle.header.specs.declared.Head.the-variants.{Header}
 use Rattle.slices.specs.Bytes.{bitAt}
 use Rattle.header.specs.Heads.{byte12Of, headOf}
 use Rattle.header_read.specs.Reading.{machineOf}
-use Rattle.blocks.specs.Blocks.{Reading, unread, readAs, blocksInto}
+use Rattle.blocks.specs.Blocks.{BodyResult, bodyRefused, bodyRead, blocksInto}
 use Rattle.body_v1.specs.Body.{bodyInto}
 use Rattle.z80read.specs.declared.Opened.{Opened}
 
 -- what follows the header, read into an area; "In v1 only .. bit 5 says packed"
-abbrev pub memoryInto : Version → Model → List ℕ → List ℕ → Reading
+abbrev pub memoryInto : Version → Model → List ℕ → List ℕ → BodyResult
 memoryInto V1 model area s = bodyInto (bitAt (byte12Of s) 32) area (drop 30 s)
 memoryInto V2 model area s = blocksInto model area (drop 55 s)
 memoryInto V3 model area s = blocksInto model area (drop 86 s)
@@ -43,14 +43,14 @@ pub record ReadResult : Type 0 where
 abbrev pub refusedRead : Refusal → ℕ → ReadResult
 refusedRead why n = record { answer = Refused why; machine = blankMachine; memory = replicate n 0 }
 
-abbrev pub readResult : Reading → Machine → ℕ → ReadResult
-readResult (unread why) m n = refusedRead why n
-readResult (readAs area) m n = record { answer = Accepted; machine = m; memory = area }
+abbrev pub afterBody : BodyResult → Machine → ℕ → ReadResult
+afterBody (bodyRefused why) m n = refusedRead why n
+afterBody (bodyRead area) m n = record { answer = Accepted; machine = m; memory = area }
 
 -- "An accepted read sets pages that the machine does not own to zero": the pages are laid over zeros
 abbrev pub afterHead : Head → List ℕ → ℕ → ReadResult
 afterHead (Head.Refused why) s n = refusedRead why n
-afterHead (Header version model attachment) s n = readResult (memoryInto version model (blank 131072) s) (machineOf version model attachment s) n
+afterHead (Header version model attachment) s n = afterBody (memoryInto version model (blank 131072) s) (machineOf version model attachment s) n
 
 -- the file s read into an area of n bytes: nothing but its length is known of the area
 unfoldable pub readOf : List ℕ → ℕ → ReadResult

@@ -1,22 +1,22 @@
 // Reading a .Z80 file, v1, v2 or v3, into a machine and a lent area of 131,072 bytes.
 use header::Head;
 use header::Version;
-use spectrum::Answer;
+use numbers::Answer;
+use numbers::Refusal;
+use pages::Model;
 use spectrum::Attachment;
 use spectrum::Machine;
-use spectrum::Model;
-use spectrum::Refusal;
 ghost use Prim.Native.Nat.{_≤_};
 ghost use mathlib.Core.Path.{_≡_};
 ghost use lib.ListN.{length};
 ghost use Rattle.slices.specs.Blank.{blank};
-ghost use Rattle.spectrum.specs.declared.Answer.the-variants.{Accepted, Refused};
+ghost use Rattle.numbers.specs.declared.Answer.the-variants.{Accepted, Refused};
 ghost use Rattle.spectrum.specs.Machine.{blankMachine};
 ghost use Rattle.header.specs.Heads.{headerLength};
 ghost use Rattle.header_read.specs.Reading.{machineOf};
 ghost use Rattle.header.specs.Inner.{Readable};
 ghost use Rattle.blocks.specs.Blocks.{ReadsBody};
-ghost use Rattle.z80read.specs.Read.{memoryInto, readResult, readOf, ReadLeaves, Reads};
+ghost use Rattle.z80read.specs.Read.{memoryInto, afterBody, readOf, ReadLeaves, Reads};
 
 // What reading gives beside the area: the answer, and the machine.
 pub struct Opened {
@@ -52,7 +52,7 @@ fn read_on(
     area: &mut [u8],
 ) -> Opened
     requires { ⌜ (Readable version model (now file)) × ((length (now area) ≡ 131072) × (now area ≡ blank 131072)) ⌝ }
-    ensures { λ r. ⌜ ReadLeaves (readResult (memoryInto version model (now (area .entry)) (now (file .entry))) (machineOf version model attachment (now (file .entry))) (length (now (area .entry)))) r (now (area .exit)) ⌝ }
+    ensures { λ r. ⌜ ReadLeaves (afterBody (memoryInto version model (now (area .entry)) (now (file .entry))) (machineOf version model attachment (now (file .entry))) (length (now (area .entry)))) r (now (area .exit)) ⌝ }
 {
     let answer = read_memory(file, version, model, area);
     match answer {

@@ -13,11 +13,11 @@ use Rattle.slices.proofs.Chosen.{either}
 use Rattle.packed.specs.Packed.{packed}
 use Rattle.packed.specs.Packed.Examples.{mixed, mixed-packed}
 use Rattle.spectrum.specs.declared.Machine.{Machine}
-use Rattle.spectrum.specs.declared.Model.{Model}
-use Rattle.spectrum.specs.declared.Model.the-variants.{K48, K128}
-use Rattle.spectrum.specs.declared.Answer.the-variants.{Accepted}
-use Rattle.spectrum.specs.declared.Slot.{Slot}
-use Rattle.spectrum.specs.Pages.{slots, pageIn}
+use Rattle.pages.specs.declared.Model.{Model}
+use Rattle.pages.specs.declared.Model.the-variants.{K48, K128}
+use Rattle.numbers.specs.declared.Answer.the-variants.{Accepted}
+use Rattle.pages.specs.declared.Slot.{Slot}
+use Rattle.pages.specs.Pages.{slots, pageIn}
 use Rattle.spectrum.specs.Valid.{validOf, Typed}
 use Rattle.z80write.specs.Written.{blockFor, laid, fileOf, WriteResult, acceptedWrite, writtenOf}
 use Rattle.z80write.proofs.Parts.{block-size, block-plain}

@@ -18,10 +18,10 @@ use Rattle.packed.specs.Packed.Promise.{page-short}
 use Rattle.packed.specs.Packing.{fits, fitted, Packs}
 use Rattle.packed.specs.declared.Fit.{Fit}
 use Rattle.packed.specs.declared.Fit.the-variants.{Length, TooShort}
-use Rattle.spectrum.specs.declared.Model.the-variants.{K48, K128}
-use Rattle.spectrum.specs.Pages.{slot, slots}
+use Rattle.pages.specs.declared.Model.the-variants.{K48, K128}
+use Rattle.pages.specs.Pages.{slot, slots}
 use Rattle.z80write.specs.Written.{blockFor}
-use Rattle.z80write.specs.Inner.{PackedTo, PackedNot, PackedAt, Laid, Over, SlotAt}
+use Rattle.z80write.specs.Inner.{PackedTo, PackedNot, PackedAt, LaidDown, NoRoom, SlotAt}
 
 -- the slots
 pub slot-0 : SlotAt K48 0 (slot 4 2)
@@ -130,7 +130,7 @@ block-size number p = go (ltb (length (packed p)) 16384)
 
 -- the ways out of write_block
 module _ (number : ℕ) (s d₀ : List ℕ) (at : ℕ) (h : (length s ≡ 16384) × (at ≤ length d₀)) where
-  pub no-head : length d₀ - at < 3 → Over (blockFor number s) d₀ at d₀
+  pub no-head : length d₀ - at < 3 → NoRoom (blockFor number s) d₀ at d₀
   no-head k = record { over = omega (arith, block-size number s, h .1); long = refl }
 
   module _ (r : Fit) (d₁ : List ℕ) (m : ℕ) (k : 3 ≤ length d₀ - at) (w : PackedAt s d₀ (at + 3) (at + 3 + m) r d₁) where
@@ -150,7 +150,7 @@ module _ (number : ℕ) (s d₀ : List ℕ) (at : ℕ) (h : (length s ≡ 16384)
     fits-room n q = let f = fits-in n q in omega (arith, f .room)
 
     pub laid-packed : (n bound : ℕ) (d : List ℕ) → r ≡ Length n → d ≡ put d₁ at (n % 256 ∷ n / 256 ∷ number ∷ []) → m ≡ min (length d₀ - at - 3) bound → n < 16384
-        → Laid (blockFor number s) d₀ at (at + 3 + n) d
+        → LaidDown (blockFor number s) d₀ at (at + 3 + n) d
     laid-packed n bound d q x e small =
         let f = fits-in n q in
         let ws = n % 256 ∷ n / 256 ∷ number ∷ [] in
@@ -170,7 +170,7 @@ module _ (number : ℕ) (s d₀ : List ℕ) (at : ℕ) (h : (length s ≡ 16384)
 
     -- not packed into 16,383 bytes
     module _ (e : m ≡ min (length d₀ - at - 3) 16383) where
-      pub no-block : r ≡ TooShort → length d₀ - at - 3 < 16384 → Over (blockFor number s) d₀ at d₁
+      pub no-block : r ≡ TooShort → length d₀ - at - 3 < 16384 → NoRoom (blockFor number s) d₀ at d₁
       no-block q j = let f = fits-not q in record { over = go (ltb (length (packed s)) 16384) (block-size number s); long = f .long }
         where
           go : (t : Bool) → length (blockFor number s) ≡ 3 + choose t (length (packed s)) (length s) → length d₀ < at + length (blockFor number s)
@@ -178,7 +178,7 @@ module _ (number : ℕ) (s d₀ : List ℕ) (at : ℕ) (h : (length s ≡ 16384)
           go false b = omega (arith, h .0)
 
       pub laid-plain : (d₂ d : List ℕ) → r ≡ TooShort → 16384 ≤ length d₀ - at - 3 → d₂ ≡ put d₁ at (255 ∷ 255 ∷ number ∷ []) → d ≡ put d₂ (at + 3) s
-          → Laid (blockFor number s) d₀ at (at + 3 + 16384) d
+          → LaidDown (blockFor number s) d₀ at (at + 3 + 16384) d
       laid-plain d₂ d q j x y =
           let f = fits-not q in
           let ws : List ℕ = 255 ∷ 255 ∷ number ∷ [] in

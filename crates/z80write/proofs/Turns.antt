@@ -8,11 +8,11 @@ use lib.ListN.{length, take, drop, length-append, drop-of-length-le}
 use lib.Seq.{drop-cons, length-take-le}
 use Rattle.packed.specs.declared.Fit.{Fit}
 use Rattle.packed.specs.declared.Fit.the-variants.{Length, TooShort}
-use Rattle.spectrum.specs.declared.Model.{Model}
-use Rattle.spectrum.specs.declared.Slot.{Slot}
-use Rattle.spectrum.specs.Pages.{slot, slots, pageIn}
+use Rattle.pages.specs.declared.Model.{Model}
+use Rattle.pages.specs.declared.Slot.{Slot}
+use Rattle.pages.specs.Pages.{slot, slots, pageIn}
 use Rattle.z80write.specs.Written.{blockFor, laid}
-use Rattle.z80write.specs.Inner.{Laid, Over, Lays, SlotAt}
+use Rattle.z80write.specs.Inner.{LaidDown, NoRoom, Lays, SlotAt}
 
 -- the file's front stands in d up to `at`, and the blocks from i on are left
 pub record Going (model : Model) (area d₀ : List ℕ) (from : ℕ) (d : List ℕ) (i at : ℕ) : Type 0 where
@@ -56,7 +56,7 @@ module _ (model : Model) (area d₀ : List ℕ) (from : ℕ) (d : List ℕ) (i a
 
     pub going-more : (e : ℕ) → r ≡ Length e → Going model area d₀ from d′ (i + 1) e
     going-more e q =
-        let l : Laid b d at e d′ = subst (λ (y : Fit). Lays b d at y d′) q w′ in
+        let l : LaidDown b d at e d′ = subst (λ (y : Fit). Lays b d at y d′) q w′ in
         record {
           few = omega arith;
           reach = omega (arith, l .inside, l .long);
@@ -68,9 +68,9 @@ module _ (model : Model) (area d₀ : List ℕ) (from : ℕ) (d : List ℕ) (i a
               ∙ g .same;
         }
 
-    pub going-over : r ≡ TooShort → (f : from ≤ length d₀) → Over (laid (slots model) area) d₀ from d′
+    pub going-over : r ≡ TooShort → (f : from ≤ length d₀) → NoRoom (laid (slots model) area) d₀ from d′
     going-over q f =
-        let o : Over b d at d′ = subst (λ (y : Fit). Lays b d at y d′) q w′ in
+        let o : NoRoom b d at d′ = subst (λ (y : Fit). Lays b d at y d′) q w′ in
         let t = laid (drop (i + 1) (slots model)) area in
         let a1 = ap length (g .same) in
         let a2 = length-append (take at d) (laid (drop i (slots model)) area) in
@@ -81,7 +81,7 @@ module _ (model : Model) (area d₀ : List ℕ) (from : ℕ) (d : List ℕ) (i a
         let a7 = length-take-le from d₀ f in
         record { over = omega (arith, o .over, g .long); long = o .long ∙ g .long }
 
-  pub going-end : (n : ℕ) → n ≡ length (slots model) → n ≤ i → from ≤ length d₀ → Laid (laid (slots model) area) d₀ from at d
+  pub going-end : (n : ℕ) → n ≡ length (slots model) → n ≤ i → from ≤ length d₀ → LaidDown (laid (slots model) area) d₀ from at d
   going-end n m h f =
       let z : drop i (slots model) ≡ [] = drop-of-length-le (slots model) {i = i} (omega arith) in
       let e : take at d ≡ take from d₀ ++ laid (slots model) area =

@@ -10,15 +10,15 @@ use borrow.Author.Tests.{eq-eqb, ne-eqb, le-leb, lt-leb}
 use Rattle.packed.specs.declared.Fit.{Fit}
 use Rattle.packed.specs.declared.Fit.the-variants.{Length, TooShort}
 use Rattle.spectrum.specs.declared.Machine.{Machine}
-use Rattle.spectrum.specs.declared.Refusal.the-variants.{InvalidMachine, MemoryLength, OutputShort}
-use Rattle.spectrum.specs.declared.Answer.the-variants.{Accepted}
-use Rattle.spectrum.specs.Pages.{slots}
+use Rattle.numbers.specs.declared.Refusal.the-variants.{InvalidMachine, MemoryLength, OutputShort}
+use Rattle.numbers.specs.declared.Answer.the-variants.{Accepted}
+use Rattle.pages.specs.Pages.{slots}
 use Rattle.spectrum.specs.Valid.{validOf, Typed}
 use Rattle.header_write.specs.Writing.{headerOf}
 use Rattle.header_write.proofs.WriteSteps.{header-length}
 use Rattle.z80write.specs.declared.Written.{Written}
 use Rattle.z80write.specs.Written.{laid, fileOf, WriteResult, refusedWrite, acceptedWrite, writtenOf, Writes}
-use Rattle.z80write.specs.Inner.{Laid, Over, Lays}
+use Rattle.z80write.specs.Inner.{LaidDown, NoRoom, Lays}
 
 abbrev pub blocksOf : Machine → List ℕ → List ℕ
 blocksOf m area = laid (slots (m .model)) area
@@ -45,7 +45,7 @@ module _ (m : Machine) (area : List ℕ) (n : ℕ) (v : validOf m ≡ true) (h :
   room k = rw (v, eq-eqb (length area) 131072 h, le-leb (length (fileOf m area)) n k)
 
 -- what is laid from k on stands after a header of k bytes
-under-header : (ws d₀ d₁ hs : List ℕ) (k n : ℕ) → length hs ≡ k → Laid ws d₀ k n d₁ → take n (hs ++ drop k d₁) ≡ hs ++ ws
+under-header : (ws d₀ d₁ hs : List ℕ) (k n : ℕ) → length hs ≡ k → LaidDown ws d₀ k n d₁ → take n (hs ++ drop k d₁) ≡ hs ++ ws
 under-header ws d₀ d₁ hs k n l w =
     let a : length (take k d₁) ≡ k = length-take-le k d₁ (omega (arith, w .end, w .inside, w .long)) in
     let b : length (take k d₀) ≡ k = length-take-le k d₀ (omega (arith, w .end, w .inside)) in
@@ -75,13 +75,13 @@ module _ (m : Machine) (area d₀ : List ℕ) (v : Bool) (u : v ≡ validOf m) w
     module _ (f : Fit) (d₁ : List ℕ) (g : Lays (blocksOf m area) d₀ 86 f d₁) where
       pub writes-short : (r : Written) (d : List ℕ) → Writes (refusedWrite OutputShort (length d₁)) r d → f ≡ TooShort → Writes (writtenOf m area (length d₀)) r d
       writes-short r d w q =
-          let o : Over (blocksOf m area) d₀ 86 d₁ = subst (λ (y : Fit). Lays (blocksOf m area) d₀ 86 y d₁) q g in
+          let o : NoRoom (blocksOf m area) d₀ 86 d₁ = subst (λ (y : Fit). Lays (blocksOf m area) d₀ 86 y d₁) q g in
           equally (no-room m area (length d₀) (sym u ∙ k) h (omega (arith, o .over, file-long m area t))) (subst (λ (n : ℕ). Writes (refusedWrite OutputShort n) r d) (o .long) w)
 
       pub writes-file : (n : ℕ) (d₂ d : List ℕ) → f ≡ Length n → d₂ ≡ headerOf m ++ drop 86 d₁ → d ≡ take n d₂ ++ replicate (length d₂ - n) 0
           → Writes (writtenOf m area (length d₀)) (record { answer = Accepted; length = n }) d
       writes-file n d₂ d q x y =
-          let w : Laid (blocksOf m area) d₀ 86 n d₁ = subst (λ (z : Fit). Lays (blocksOf m area) d₀ 86 z d₁) q g in
+          let w : LaidDown (blocksOf m area) d₀ 86 n d₁ = subst (λ (z : Fit). Lays (blocksOf m area) d₀ 86 z d₁) q g in
           let fl = file-long m area t in
           let hl = header-length m t in
           let tl : length (take 86 d₁) ≡ 86 = length-take-le 86 d₁ (omega (arith, w .end, w .inside, w .long)) in

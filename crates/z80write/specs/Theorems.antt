@@ -7,8 +7,8 @@ use lib.ListN.{length}
 use Rattle.packed.specs.Packed.{packed}
 use Rattle.packed.specs.Packed.Examples.{mixed}
 use Rattle.spectrum.specs.declared.Machine.{Machine}
-use Rattle.spectrum.specs.declared.Model.the-variants.{K128}
-use Rattle.spectrum.specs.declared.Answer.the-variants.{Accepted}
+use Rattle.pages.specs.declared.Model.the-variants.{K128}
+use Rattle.numbers.specs.declared.Answer.the-variants.{Accepted}
 use Rattle.spectrum.specs.Valid.{Typed, validOf}
 use Rattle.z80write.specs.Written.{blockFor, fileOf, acceptedWrite, writtenOf}
 

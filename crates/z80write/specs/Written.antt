@@ -8,12 +8,12 @@ use lib.Dec.{eqb, ltb, leb}
 use Rattle.slices.specs.Choose.{choose}
 use Rattle.packed.specs.Packed.{packed}
 use Rattle.spectrum.specs.declared.Machine.{Machine}
-use Rattle.spectrum.specs.declared.Slot.{Slot}
-use Rattle.spectrum.specs.declared.Refusal.{Refusal}
-use Rattle.spectrum.specs.declared.Refusal.the-variants.{InvalidMachine, MemoryLength, OutputShort}
-use Rattle.spectrum.specs.declared.Answer.{Answer}
-use Rattle.spectrum.specs.declared.Answer.the-variants.{Accepted, Refused}
-use Rattle.spectrum.specs.Pages.{slots, pageIn}
+use Rattle.pages.specs.declared.Slot.{Slot}
+use Rattle.numbers.specs.declared.Refusal.{Refusal}
+use Rattle.numbers.specs.declared.Refusal.the-variants.{InvalidMachine, MemoryLength, OutputShort}
+use Rattle.numbers.specs.declared.Answer.{Answer}
+use Rattle.numbers.specs.declared.Answer.the-variants.{Accepted, Refused}
+use Rattle.pages.specs.Pages.{slots, pageIn}
 use Rattle.spectrum.specs.Valid.{validOf}
 use Rattle.header_write.specs.Writing.{headerOf}
 use Rattle.z80write.specs.declared.Written.{Written}

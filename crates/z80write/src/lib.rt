@@ -1,18 +1,18 @@
 // Writing the one v3 file of a machine and its memory: blocks are packed into the output itself, then the header.
 // Above packing and header, through their promises alone.
+use numbers::Answer;
+use numbers::Refusal;
 use packed::Fit;
-use spectrum::Answer;
+use pages::Model;
+use pages::Slot;
 use spectrum::Machine;
-use spectrum::Model;
-use spectrum::Refusal;
-use spectrum::Slot;
 ghost use Prim.Native.Nat.{_+_, _/_, _%_, _≤_, _<_};
 ghost use mathlib.Core.Path.{_≡_};
 ghost use mathlib.Core.List.{_∷_, []};
 ghost use lib.ListN.{length};
 ghost use Rattle.slices.specs.Put.{put};
-ghost use Rattle.spectrum.specs.declared.Model.the-variants.{K48, K128};
-ghost use Rattle.spectrum.specs.Pages.{slots};
+ghost use Rattle.pages.specs.declared.Model.the-variants.{K48, K128};
+ghost use Rattle.pages.specs.Pages.{slots};
 ghost use Rattle.z80write.specs.Written.{blockFor, laid, refusedWrite, writtenOf, Writes};
 ghost use Rattle.z80write.specs.Inner.{PackedAt, Lays, SlotAt};
 

@@ -3,7 +3,7 @@ use lib.ListN.{length}
 use Rattle.packed.specs.Inner.{packedAs}
 use Rattle.packed.proofs.Frame.{Frame, frame-none}
 use Rattle.packing.proofs.Answers.{rest-packed}
-use Rattle.codewise.proofs.PackSteps.{again-run-ed, again-run, again-single, again-short}
+use Rattle.pack_tail.proofs.PackSteps.{again-run-ed, again-run, again-single, again-short}
 use Rattle.packing.proofs.Loop.{stopped, stopped-block}
 use borrow.Author.Needs.{needs}
 use Rattle.packing.proofs.pack_into.Statement.{statement}

@@ -1,0 +1,25 @@
+use mathlib.Core.Path.{sym}
+use Rattle.numbers.specs.Numbers.{numberOf}
+use mathlib.Core.Path.{ap, _∙_}
+use borrow.Author.Needs.{needs}
+use Rattle.numbers.proofs.number.Statement.{statement}
+use Rattle.numbers.proofs.number.Tie as tie
+
+enum-told : tie.Need-enum-told
+enum-told c = search needs
+
+enum-known-answer : tie.Need-enum-known-answer
+enum-known-answer c = search needs
+
+refusal-number-requires : tie.Need-refusal-number-requires
+refusal-number-requires c κs = search needs
+
+returns : tie.Need-returns
+returns c = search needs
+
+returns-2 : tie.Need-returns-2
+returns-2 c = c .refusal-number .ensures ∙ ap numberOf (sym (c .before .before .answer .given .1))
+
+pub number-spec : {M : Type 1} → statement M
+number-spec =
+    tie.close (tie.spec enum-told enum-known-answer refusal-number-requires returns returns-2)

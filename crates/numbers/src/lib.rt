@@ -1,0 +1,83 @@
+// The numbers that calls answer: document 01's one table.
+ghost use mathlib.Core.Path.{_≡_};
+ghost use Rattle.numbers.specs.Numbers.{numberOf, refusalNumber};
+
+// Why a call is refused, in the order of document 01's table.
+pub enum Refusal {
+    AreaLength,
+    FileShort,
+    UnknownVersion,
+    ModeNotCarried,
+    InterruptMode,
+    CounterRange,
+    Byte60,
+    BlockCut,
+    BlockNumber,
+    BlockTwice,
+    MalformedData,
+    UnpackedLength,
+    BlockMissing,
+    EndMarker,
+    InvalidMachine,
+    MemoryLength,
+    OutputShort,
+    RomAddress,
+    OutOn48k,
+    PagingLocked,
+    JournalFull,
+    NothingToMove,
+    StepDamaged,
+    CountsDisagree,
+    PageNotOwned,
+    RomLength,
+    PairNumber,
+}
+
+pub enum Answer {
+    Accepted,
+    Refused(Refusal),
+}
+
+// The number of an answer.
+pub fn number(answer: Answer) -> u32
+    ensures { λ r. ⌜ r ≡ numberOf answer ⌝ }
+{
+    match answer {
+        Answer::Accepted => 0,
+        Answer::Refused(why) => refusal_number(why),
+    }
+}
+
+fn refusal_number(why: Refusal) -> u32
+    ensures { λ r. ⌜ r ≡ refusalNumber why ⌝ }
+{
+    match why {
+        Refusal::AreaLength => 1,
+        Refusal::FileShort => 2,
+        Refusal::UnknownVersion => 3,
+        Refusal::ModeNotCarried => 4,
+        Refusal::InterruptMode => 5,
+        Refusal::CounterRange => 6,
+        Refusal::Byte60 => 7,
+        Refusal::BlockCut => 8,
+        Refusal::BlockNumber => 9,
+        Refusal::BlockTwice => 10,
+        Refusal::MalformedData => 11,
+        Refusal::UnpackedLength => 12,
+        Refusal::BlockMissing => 13,
+        Refusal::EndMarker => 14,
+        Refusal::InvalidMachine => 20,
+        Refusal::MemoryLength => 21,
+        Refusal::OutputShort => 22,
+        Refusal::RomAddress => 23,
+        Refusal::OutOn48k => 24,
+        Refusal::PagingLocked => 25,
+        Refusal::JournalFull => 26,
+        Refusal::NothingToMove => 27,
+        Refusal::StepDamaged => 28,
+        Refusal::CountsDisagree => 29,
+        Refusal::PageNotOwned => 30,
+        Refusal::RomLength => 31,
+        Refusal::PairNumber => 32,
+    }
+}

@@ -1,0 +1,207 @@
+use lib.ListN.{length, take, drop}
+use mathlib.Core.List.{_++_}
+use Prim.Native.Nat.{_-_}
+use Rattle.packed.specs.Packed.{bytes, packed}
+use Rattle.packed.specs.Inner.{packedAs}
+use Rattle.packed.proofs.Frame.{Frame, frame-from}
+use Rattle.pack_tail.proofs.PackSteps.{packed-all, again-run-ed, again-run, again-single, again-last, again-short, short-run-ed, short-run, short-single, short-last, short-short}
+use borrow.Author.Needs.{needs}
+use Rattle.pack_tail.proofs.pack_rest.Statement.{statement}
+use Rattle.pack_tail.proofs.pack_rest.Tie as tie
+
+abbrev Inv-loop : tie.InvT-loop
+Inv-loop src from dst₀ at i₀ o₀ dst i o = Frame packedAs (bytes (take at dst₀ ++ packed (drop from src))) src dst₀ dst i o
+
+abbrev μ-loop : tie.MeasureT-loop
+μ-loop src from dst₀ at i₀ o₀ dst i o = length src - i
+
+loop-holds : tie.Need-loop-holds Inv-loop μ-loop
+loop-holds c = search frame-from
+
+shared-slice-read-v : tie.Need-shared-slice-read-v Inv-loop μ-loop
+shared-slice-read-v c = search needs
+
+run-at-requires : tie.Need-run-at-requires Inv-loop μ-loop
+run-at-requires c κs = search needs
+
+add-if3 : tie.Need-add-if3 Inv-loop μ-loop
+add-if3 c = search needs
+
+same-length : tie.Need-same-length Inv-loop μ-loop
+same-length c = search needs
+
+returns : tie.Need-returns Inv-loop μ-loop
+returns c = search short-run-ed
+
+put-run-requires : tie.Need-put-run-requires Inv-loop μ-loop
+put-run-requires c κs = search needs
+
+add-o : tie.Need-add-o Inv-loop μ-loop
+add-o c = search needs
+
+add-i : tie.Need-add-i Inv-loop μ-loop
+add-i c = search needs
+
+loop-less : tie.Need-loop-less Inv-loop μ-loop
+loop-less c = search needs
+
+loop-again : tie.Need-loop-again Inv-loop μ-loop
+loop-again c = search again-run-ed
+
+add-if4 : tie.Need-add-if4 Inv-loop μ-loop
+add-if4 c = search needs
+
+add-if5 : tie.Need-add-if5 Inv-loop μ-loop
+add-if5 c = search needs
+
+same-length-2 : tie.Need-same-length-2 Inv-loop μ-loop
+same-length-2 c = search needs
+
+returns-2 : tie.Need-returns-2 Inv-loop μ-loop
+returns-2 c = search short-single
+
+add-put-two : tie.Need-add-put-two Inv-loop μ-loop
+add-put-two c = search needs
+
+shared-slice-read-put-two : tie.Need-shared-slice-read-put-two Inv-loop μ-loop
+shared-slice-read-put-two c = search needs
+
+put-two-requires : tie.Need-put-two-requires Inv-loop μ-loop
+put-two-requires c κs = search needs
+
+add-o-2 : tie.Need-add-o-2 Inv-loop μ-loop
+add-o-2 c = search needs
+
+add-i-2 : tie.Need-add-i-2 Inv-loop μ-loop
+add-i-2 c = search needs
+
+loop-less-2 : tie.Need-loop-less-2 Inv-loop μ-loop
+loop-less-2 c = search needs
+
+loop-again-2 : tie.Need-loop-again-2 Inv-loop μ-loop
+loop-again-2 c = search again-single
+
+same-length-3 : tie.Need-same-length-3 Inv-loop μ-loop
+same-length-3 c = search needs
+
+returns-3 : tie.Need-returns-3 Inv-loop μ-loop
+returns-3 c = search short-last
+
+put-one-requires : tie.Need-put-one-requires Inv-loop μ-loop
+put-one-requires c κs = search needs
+
+add-o-3 : tie.Need-add-o-3 Inv-loop μ-loop
+add-o-3 c = search needs
+
+add-i-3 : tie.Need-add-i-3 Inv-loop μ-loop
+add-i-3 c = search needs
+
+loop-less-3 : tie.Need-loop-less-3 Inv-loop μ-loop
+loop-less-3 c = search needs
+
+loop-again-3 : tie.Need-loop-again-3 Inv-loop μ-loop
+loop-again-3 c = search again-last
+
+add-if8 : tie.Need-add-if8 Inv-loop μ-loop
+add-if8 c = search needs
+
+same-length-4 : tie.Need-same-length-4 Inv-loop μ-loop
+same-length-4 c = search needs
+
+returns-4 : tie.Need-returns-4 Inv-loop μ-loop
+returns-4 c = search short-run
+
+put-run-requires-2 : tie.Need-put-run-requires-2 Inv-loop μ-loop
+put-run-requires-2 c κs = search needs
+
+add-o-4 : tie.Need-add-o-4 Inv-loop μ-loop
+add-o-4 c = search needs
+
+add-i-4 : tie.Need-add-i-4 Inv-loop μ-loop
+add-i-4 c = search needs
+
+loop-less-4 : tie.Need-loop-less-4 Inv-loop μ-loop
+loop-less-4 c = search needs
+
+loop-again-4 : tie.Need-loop-again-4 Inv-loop μ-loop
+loop-again-4 c = search again-run
+
+add-e : tie.Need-add-e Inv-loop μ-loop
+add-e c = search needs
+
+same-length-5 : tie.Need-same-length-5 Inv-loop μ-loop
+same-length-5 c = search needs
+
+returns-5 : tie.Need-returns-5 Inv-loop μ-loop
+returns-5 c = search short-short
+
+fill-run-requires : tie.Need-fill-run-requires Inv-loop μ-loop
+fill-run-requires c κs = search needs
+
+add-i-5 : tie.Need-add-i-5 Inv-loop μ-loop
+add-i-5 c = search needs
+
+loop-less-5 : tie.Need-loop-less-5 Inv-loop μ-loop
+loop-less-5 c = search needs
+
+loop-again-5 : tie.Need-loop-again-5 Inv-loop μ-loop
+loop-again-5 c = search again-short
+
+same-length-6 : tie.Need-same-length-6 Inv-loop μ-loop
+same-length-6 c = search needs
+
+returns-6 : tie.Need-returns-6 Inv-loop μ-loop
+returns-6 c = search packed-all
+
+pub pack-rest-spec : {M : Type 1} → statement M
+pack-rest-spec =
+    tie.close
+    (tie.spec
+    Inv-loop
+    μ-loop
+    loop-holds
+    shared-slice-read-v
+    run-at-requires
+    add-if3
+    same-length
+    returns
+    put-run-requires
+    add-o
+    add-i
+    loop-less
+    loop-again
+    add-if4
+    add-if5
+    same-length-2
+    returns-2
+    add-put-two
+    shared-slice-read-put-two
+    put-two-requires
+    add-o-2
+    add-i-2
+    loop-less-2
+    loop-again-2
+    same-length-3
+    returns-3
+    put-one-requires
+    add-o-3
+    add-i-3
+    loop-less-3
+    loop-again-3
+    add-if8
+    same-length-4
+    returns-4
+    put-run-requires-2
+    add-o-4
+    add-i-4
+    loop-less-4
+    loop-again-4
+    add-e
+    same-length-5
+    returns-5
+    fill-run-requires
+    add-i-5
+    loop-less-5
+    loop-again-5
+    same-length-6
+    returns-6)

@@ -1,0 +1,51 @@
+use Rattle.stores.proofs.Written.{put-4}
+use native.Mathlib.Omega.{arith}
+use lib.ListN.{length-set}
+use borrow.Author.Needs.{needs}
+use Rattle.pack_tail.proofs.put_run.Statement.{statement}
+use Rattle.pack_tail.proofs.put_run.Tie as tie
+
+slice-write-dst : tie.Need-slice-write-dst
+slice-write-dst c = search needs
+
+add-dst : tie.Need-add-dst
+add-dst c = search needs
+
+slice-write-dst-2 : tie.Need-slice-write-dst-2
+slice-write-dst-2 c = simp length-set (omega arith)
+
+cast-dst : tie.Need-cast-dst
+cast-dst c = search needs
+
+add-dst-2 : tie.Need-add-dst-2
+add-dst-2 c = search needs
+
+slice-write-dst-3 : tie.Need-slice-write-dst-3
+slice-write-dst-3 c = simp length-set (omega arith)
+
+add-dst-3 : tie.Need-add-dst-3
+add-dst-3 c = search needs
+
+slice-write-dst-4 : tie.Need-slice-write-dst-4
+slice-write-dst-4 c = simp length-set (omega arith)
+
+same-length : tie.Need-same-length
+same-length c = search needs
+
+returns : tie.Need-returns
+returns c = put-4 _ _ _ _ _ _ (search needs)
+
+pub put-run-spec : {M : Type 1} → statement M
+put-run-spec =
+    tie.close
+    (tie.spec
+    slice-write-dst
+    add-dst
+    slice-write-dst-2
+    cast-dst
+    add-dst-2
+    slice-write-dst-3
+    add-dst-3
+    slice-write-dst-4
+    same-length
+    returns)
