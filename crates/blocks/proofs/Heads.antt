@@ -10,7 +10,7 @@ use lib.Seq.{getD-drop, drop-drop, take-length}
 use borrow.Author.Tests.{lt-ltb, le-ltb, eq-eqb, ne-eqb}
 use borrow.Rule.Slice.PartMut.{putMid}
 use Rattle.slices.specs.Put.{put}
-use Rattle.packed.specs.Packed.{Found, bytes, unpacked}
+use Rattle.packed.specs.Packed.{Found, unpacked}
 use Rattle.packed.specs.Unpacking.{Unpacks}
 use Rattle.packed.specs.declared.Unpacked.{Unpacked}
 use Rattle.packed.specs.declared.Unpacked.the-variants.{Good, WrongLength, Malformed}

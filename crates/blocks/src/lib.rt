@@ -3,7 +3,7 @@ use numbers::Answer;
 use numbers::Refusal;
 use packed::Unpacked;
 use pages::Model;
-ghost use Prim.Native.Nat.{_+_, _*_, _<_};
+ghost use Prim.Native.Nat.{_<_};
 ghost use mathlib.Core.Path.{_≡_};
 ghost use lib.ListN.{length, drop};
 ghost use Rattle.blocks.specs.Blocks.{pageOf, allThere, sizeOf, blocksInto, bodyRefused, ReadsBody};

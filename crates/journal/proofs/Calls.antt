@@ -20,14 +20,14 @@ use Rattle.z80read.specs.Read.{readOf, Reads}
 use Rattle.log_steps.specs.declared.Counts.{Counts}
 use Rattle.log_steps.specs.declared.Done.{Done}
 use Rattle.log_steps.specs.Steps.{capacity}
-use Rattle.log_steps.specs.Session.{Session, CallResult, sessionOn, resultOf, ifAccepted}
+use Rattle.log_steps.specs.Session.{CallResult, sessionOn, resultOf, ifAccepted}
 use Rattle.log_steps.specs.Inner.{Ready}
 use Rattle.log_steps.proofs.Room.{refusedDone}
 use Rattle.corrections.specs.Corrections.{byteAt, pairTo, outTo, corrected}
 use Rattle.undo.specs.Undo.{undoOf, redoOf}
 use Rattle.journal.specs.declared.Call.{Call}
 use Rattle.journal.specs.declared.Call.the-variants.{Byte, Pair, Out, Undo, Redo}
-use Rattle.journal.specs.Journal.{soundness, ifSound, called, journalCall, startCounts, openOf}
+use Rattle.journal.specs.Journal.{soundness, called, journalCall, startCounts, openOf}
 
 -- 20, 21, 29
 module _ (m : Machine) (area cap standing total : ℕ) (t : Bool) (et : t ≡ validOf m) where

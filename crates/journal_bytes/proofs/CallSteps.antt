@@ -1,13 +1,10 @@
 -- The calls of the journal over bytes, at each return of the code.
 use Prim.Native.Nat.{ℕ}
 use native.Mathlib.Omega.{arith}
-use mathlib.Core.Path.{_≡_, refl, sym, ap, _∙_}
-use mathlib.Core.Bool.{Bool, true, false}
+use mathlib.Core.Path.{_≡_, refl, ap, _∙_}
+use mathlib.Core.Bool.{true, false}
 use mathlib.Core.List.{List, _++_, append-nil}
 use lib.ListN.{length, drop, drop-of-length-le}
-use lib.Dec.{eqb}
-use borrow.Author.Tests.{eqb-true}
-use Rattle.slices.specs.Choose.{choose}
 use Rattle.spectrum.specs.declared.Machine.{Machine}
 use Rattle.numbers.specs.declared.Answer.the-variants.{Refused}
 use Rattle.numbers.specs.declared.Refusal.the-variants.{InvalidMachine}

@@ -1,23 +1,21 @@
 -- Steps of the log and what they point at, at each return of the code.
 use Prim.Native.Nat.{ℕ, _+_, _*_, _/_, _%_, _≤_, _<_}
 use native.Mathlib.Omega.{arith}
-use mathlib.Core.Path.{_≡_, refl, sym, ap, _∙_}
-use mathlib.Core.Bool.{Bool, true, false}
+use mathlib.Core.Path.{_≡_, sym, ap, _∙_}
+use mathlib.Core.Bool.{Bool}
 use mathlib.Core.List.{List}
-use borrow.Author.Tests.{eq-eqb, ne-eqb, ltb-true, ltb-false, eqb-true}
+use borrow.Author.Tests.{eq-eqb, ne-eqb}
 use lib.Dec.{ltb, eqb}
 use lib.ListN.{length, getD, set, List·getD-eq-default}
 use lib.Seq.{set-out}
-use Rattle.slices.specs.Choose.{choose, both}
-use Rattle.slices.proofs.Chosen.{both-true}
+use Rattle.slices.specs.Choose.{both}
 use Rattle.spectrum.specs.declared.Machine.{Machine}
 use Rattle.pages.specs.declared.Model.{Model}
 use Rattle.spectrum.specs.Machine.{withPair, withOut}
 use Rattle.pages.specs.Pages.{owned}
-use Rattle.pages.proofs.Places.{owned-none}
 use Rattle.log_steps.specs.declared.Step.{Step}
 use Rattle.spectrum.specs.State.{State}
-use Rattle.log_steps.specs.Steps.{capacity, present, placed, twoBytes, is128, tagIntact, intact}
+use Rattle.log_steps.specs.Steps.{capacity, present, placed, twoBytes, is128, tagIntact}
 
 pub capacity-small : (log : List ℕ) → length log / 11 ≤ 4096 → length log / 11 ≡ capacity (length log)
 unfolding capacity

@@ -8,7 +8,7 @@ ghost use Prim.Native.Nat.{_+_, _-_, _*_, _≤_, _<_};
 ghost use mathlib.Core.Path.{_≡_};
 ghost use lib.ListN.{length};
 ghost use Rattle.numbers.specs.declared.Answer.the-variants.{Accepted, Refused};
-ghost use Rattle.log_steps.specs.Steps.{capacity, putStep, stepAt, present, placed, twoBytes, is128, tagIntact, intact};
+ghost use Rattle.log_steps.specs.Steps.{capacity, putStep, stepAt, present, placed, is128, tagIntact, intact};
 
 // The log's two numbers: how many corrections stand, and how many stand or wait.
 pub struct Counts {

@@ -5,13 +5,12 @@ use mathlib.Core.Path.{_≡_, refl, sym, ap, _∙_}
 use mathlib.Core.Bool.{Bool, true, false}
 use mathlib.Core.List.{List, _++_}
 use lib.ListN.{length, take, drop, replicate}
-use lib.Seq.{take-at, length-take-le}
+use lib.Seq.{length-take-le}
 use lib.Dec.{leb}
 use borrow.Author.Tests.{le-leb}
 use Rattle.slices.specs.Choose.{choose}
 use Rattle.slices.proofs.Fills.{cleared-whole}
-use Rattle.packed.specs.Packed.{bytes, unpacked, packed}
-use Rattle.packed.specs.Packed.Promise.{unpacked-packed}
+use Rattle.packed.specs.Packed.{bytes, packed}
 use Rattle.packed.specs.Packing.{Packs, fits}
 use Rattle.packed.specs.Inner.{packedAs, PackedInto}
 use Rattle.packed.proofs.Frame.{Frame}
@@ -51,14 +50,3 @@ module _ (s d₀ : List ℕ) (r : Fit) (d : List ℕ) (g : PackedInto (packed s)
           → replicate (length d₀) 0 ≡ choose t (packed s ++ replicate (length d₀ - length (packed s)) 0) (replicate (length d₀) 0)
       go true h = absurd (never-length _ h)
       go false h = refl
-
--- what an accepted packing left unpacks to what was packed
-pub packs-back : (xs : List ℕ) (n m : ℕ) (d : List ℕ) → Packs (packed xs) n (Length m) d → unpacked (take m d) ≡ bytes xs
-packs-back xs n m d p = go (leb (length (packed xs)) n) (p .answer) (p .memory)
-  where
-    go : (t : Bool) → Length m ≡ choose t (Length (length (packed xs))) TooShort
-        → d ≡ choose t (packed xs ++ replicate (n - length (packed xs)) 0) (replicate n 0) → unpacked (take m d) ≡ bytes xs
-    go true e q =
-        let k : length (packed xs) ≡ m = cc in
-        ap unpacked (ap (take m) q ∙ take-at (packed xs) (replicate (n - length (packed xs)) 0) m k) ∙ unpacked-packed xs
-    go false e q = absurd (never-length m (sym e))

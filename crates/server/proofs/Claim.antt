@@ -43,15 +43,15 @@ numbers-are (c ∷ cs) d wide g =
 
 -- THE CLAIM, in bytes
 pub byte-claim : ByteClaimOf snapCall
-byte-claim start log ok calls wide =
-    let fresh : List ℕ = replicate (length log) 0 in
+byte-claim start size ok calls wide =
+    let fresh : List ℕ = replicate size 0 in
     let d = started start fresh in
     let ahead : Ahead d = start-after start fresh ok in
     let r = run-is calls d wide ahead in
     let q = claim start fresh ok calls wide in
-    let long : length fresh ≡ length log = length-replicate {A = ℕ} (length log) 0 in
+    let long : length fresh ≡ size = length-replicate {A = ℕ} size 0 in
     record {
-      left = subst (λ (k : ℕ). HistoryBytes start (modelAfter start k noHistory calls) (runBuffers snapCall (startedBuffers (headerOf (start .machine)) (start .memory) (length log)) calls)) long
+      left = subst (λ (k : ℕ). HistoryBytes start (modelAfter start k noHistory calls) (runBuffers snapCall (startedBuffers (headerOf (start .machine)) (start .memory) size) calls)) long
           (record {
             header = ap (λ (b : Buffers). b .header) r ∙ ap (λ (w : State). headerOf (w .machine)) (q .state);
             area = ap (λ (b : Buffers). b .area) r ∙ ap (λ (w : State). w .memory) (q .state);

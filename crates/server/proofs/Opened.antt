@@ -25,6 +25,6 @@ file-serves file n k head area log b room r c x numbers fb p g =
           let ea : area ≡ o .memory = p .area ∙ ap (λ (y : ReadBytes). y .area) (q .1) in
           let f : HeaderFor (o .machine) head
           = record { valid = s .valid; typed = read-typed file n fb (q .0); is = p .header ∙ ap (λ (y : ReadBytes). y .header) (q .1) } in
-          subst (λ (w : List ℕ). ModelBytes (record { machine = o .machine; memory = w }) log b room x numbers) ea
+          subst (λ (w : List ℕ). ModelBytes (record { machine = o .machine; memory = w }) (length log) b room x numbers) ea
           (g .claim (o .machine) f (ap length ea ∙ s .clean .long));
     }

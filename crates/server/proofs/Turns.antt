@@ -122,7 +122,7 @@ serves head area log zeros calls room r s t x numbers hb ab cb ez es et er g₀ 
       claim = λ m f a.
           let start : State = record { machine = m; memory = area } in
           let fit : ValidStart start = record { valid = f .valid; area = a; typed = f .typed; bytes = ab } in
-          let q = byte-claim start log fit cs (typed-all calls cb 0 (callCount calls room)) in
+          let q = byte-claim start (length log) fit cs (typed-all calls cb 0 (callCount calls room)) in
           let h : startedBuffers head area (length log) ≡ startedBuffers (headerOf m) area (length log) = λ k. startedBuffers (f .is k) area (length log) in
           record {
             left = subst (HistoryBytes start (modelHistory start (length log) cs)) (sym (g .left ∙ ap (λ (y : Buffers). runBuffers snapCall y cs) h)) (q .left);

@@ -38,27 +38,27 @@ pub record HistoryBytes (start : State) (b : History) (x : Buffers) : Type 0 whe
   pub standing : x .standing ≡ length (b .applied)
   pub total : x .total ≡ length (b .applied) + length (b .undone)
 
--- the claim of a way f to make calls over bytes: after this list, from the header and the area of this start and this log just started,
+-- the claim of a way f to make calls over bytes: after this list, from the header and the area of this start and a log of so many bytes just started,
 -- header, area, both numbers and every answer are the model's
-pub record ByteClaim (f : Call → Buffers → Answered) (start : State) (log : List ℕ) (calls : List Call) : Type 0 where
-  pub left : HistoryBytes start (modelHistory start (length log) calls)
-      (runBuffers f (startedBuffers (headerOf (start .machine)) (start .memory) (length log)) calls)
-  pub numbers : runNumbers f (startedBuffers (headerOf (start .machine)) (start .memory) (length log)) calls
-      ≡ map numberOf (modelAnswers start (length log) noHistory calls)
+pub record ByteClaim (f : Call → Buffers → Answered) (start : State) (size : ℕ) (calls : List Call) : Type 0 where
+  pub left : HistoryBytes start (modelHistory start size calls)
+      (runBuffers f (startedBuffers (headerOf (start .machine)) (start .memory) size) calls)
+  pub numbers : runNumbers f (startedBuffers (headerOf (start .machine)) (start .memory) size) calls
+      ≡ map numberOf (modelAnswers start size noHistory calls)
 
 -- DEMAND 3, IN BYTES, of a way f to make calls
 abbrev pub ByteClaimOf : (Call → Buffers → Answered) → Type 0
-ByteClaimOf f = (start : State) (log : List ℕ) → ValidStart start → (calls : List Call) → TypedCalls calls → ByteClaim f start log calls
+ByteClaimOf f = (start : State) (size : ℕ) → ValidStart start → (calls : List Call) → TypedCalls calls → ByteClaim f start size calls
 
 -- What the calls leave, said by the calls' own definitions: every buffer, the number of every answer, and zeros past them.
 pub record RanBytes (encoded : List ℕ) (room : ℕ) (x₀ x : Buffers) (numbers : List ℕ) : Type 0 where
   pub left : x ≡ runBuffers snapCall x₀ (callsIn encoded room)
   pub said : numbers ≡ runNumbers snapCall x₀ (callsIn encoded room) ++ replicate (room - callCount encoded room) 0
 
--- what the model says of a run from a start: the buffers, and the number of every answer
-pub record ModelBytes (start : State) (log encoded : List ℕ) (room : ℕ) (x : Buffers) (numbers : List ℕ) : Type 0 where
-  pub left : HistoryBytes start (modelHistory start (length log) (callsIn encoded room)) x
-  pub said : numbers ≡ numbersIn (modelAnswers start (length log) noHistory (callsIn encoded room)) (room - callCount encoded room)
+-- what the model says of a run from a start and a log of so many bytes: the buffers, and the number of every answer
+pub record ModelBytes (start : State) (size : ℕ) (encoded : List ℕ) (room : ℕ) (x : Buffers) (numbers : List ℕ) : Type 0 where
+  pub left : HistoryBytes start (modelHistory start size (callsIn encoded room)) x
+  pub said : numbers ≡ numbersIn (modelAnswers start size noHistory (callsIn encoded room)) (room - callCount encoded room)
 
 -- after the start of the log nothing is changed, and every call answers 20
 pub record Untouched (encoded : List ℕ) (room : ℕ) (x₀ x : Buffers) (numbers : List ℕ) : Type 0 where
@@ -70,7 +70,7 @@ pub record Untouched (encoded : List ℕ) (room : ℕ) (x₀ x : Buffers) (numbe
 pub record Serves (head area log encoded : List ℕ) (room r : ℕ) (x : Buffers) (numbers : List ℕ) : Type 0 where
   pub count : r ≡ callCount encoded room
   pub ran : RanBytes encoded room (startedBuffers head area (length log)) x numbers
-  pub claim : (m : Machine) → HeaderFor m head → length area ≡ 131072 → ModelBytes (record { machine = m; memory = area }) log encoded room x numbers
+  pub claim : (m : Machine) → HeaderFor m head → length area ≡ 131072 → ModelBytes (record { machine = m; memory = area }) (length log) encoded room x numbers
   pub not-ours : ((m : Machine) → HeaderFor m head → ⊥) → Untouched encoded room (startedBuffers head area (length log)) x numbers
 
 -- The promise of `serve_file`, with an area of n bytes and a header of k: the number of the read, and every call on what it left; where that
@@ -78,4 +78,4 @@ pub record Serves (head area log encoded : List ℕ) (room r : ℕ) (x : Buffers
 pub record ServesFile (file : List ℕ) (n k : ℕ) (log encoded : List ℕ) (room r : ℕ) (x : Buffers) (numbers : List ℕ) : Type 0 where
   pub answer : r ≡ readOfBytes file n k .answer
   pub ran : RanBytes encoded room (startedBuffers (readOfBytes file n k .header) (readOfBytes file n k .area) (length log)) x numbers
-  pub claim : r ≡ 0 → ModelBytes (startOf (readOf file n)) log encoded room x numbers
+  pub claim : r ≡ 0 → ModelBytes (startOf (readOf file n)) (length log) encoded room x numbers

@@ -3,9 +3,7 @@ use numbers::Answer;
 use numbers::Refusal;
 use pages::Model;
 use spectrum::Machine;
-ghost use Prim.Native.Nat.{ℕ, _≤_, _<_};
 ghost use mathlib.Core.Path.{_≡_};
-ghost use lib.ListN.{length};
 ghost use Rattle.view.specs.View.{romLength, romPages, hasPage, viewAnswer, partFor, viewOf};
 
 // Where a page lies, and at which byte it starts.

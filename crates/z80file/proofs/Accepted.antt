@@ -13,7 +13,7 @@ use Rattle.slices.specs.Put.{put}
 use Rattle.slices.specs.Blank.{blank}
 use Rattle.packed.specs.Packed.{Found, malformed, unpacked, bytes}
 use Rattle.pages.specs.declared.Model.{Model}
-use Rattle.pages.specs.declared.Model.the-variants.{K48, K128}
+use Rattle.pages.specs.declared.Model.the-variants.{K48}
 use Rattle.numbers.specs.declared.Refusal.{Refusal}
 use Rattle.numbers.specs.declared.Refusal.the-variants.{BlockCut, BlockTwice, UnpackedLength, BlockMissing, EndMarker}
 use Rattle.pages.specs.Pages.{owned}

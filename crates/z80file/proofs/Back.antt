@@ -22,7 +22,8 @@ use Rattle.blocks.specs.declared.Page.the-variants.{At}
 use Rattle.blocks.specs.Blocks.{pageOf, allThere, Block, brought, sizeOf, contents, onPage, blockOf, bodyRead, bodyRefused, afterBlock, finished, blocks, noneSeen, blocksInto}
 use Rattle.blocks.proofs.Turns.{turn, ended}
 use Rattle.pages.specs.declared.Slot.{Slot}
-use Rattle.z80write.specs.Written.{blockFor, laid}
+use Rattle.block_write.specs.BlockFor.{blockFor}
+use Rattle.z80write.specs.Written.{laid}
 use Rattle.z80file.specs.Clean.{Clean}
 use Rattle.z80file.proofs.Places.{page-at, put-long, put-here, put-elsewhere, blank-at, blank-long}
 

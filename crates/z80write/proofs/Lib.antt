@@ -1,4 +1,4 @@
-pub mod Parts
+pub mod Slots
 pub mod Turns
 pub mod Whole
 pub mod Longest

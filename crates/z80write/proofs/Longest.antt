@@ -19,8 +19,9 @@ use Rattle.numbers.specs.declared.Answer.the-variants.{Accepted}
 use Rattle.pages.specs.declared.Slot.{Slot}
 use Rattle.pages.specs.Pages.{slots, pageIn}
 use Rattle.spectrum.specs.Valid.{validOf, Typed}
-use Rattle.z80write.specs.Written.{blockFor, laid, fileOf, WriteResult, acceptedWrite, writtenOf}
-use Rattle.z80write.proofs.Parts.{block-size, block-plain}
+use Rattle.block_write.specs.BlockFor.{blockFor}
+use Rattle.z80write.specs.Written.{laid, fileOf, WriteResult, acceptedWrite, writtenOf}
+use Rattle.block_write.proofs.Block.{block-size, block-plain}
 use Rattle.z80write.proofs.Whole.{file-long, room}
 
 block-most : (number : ℕ) (p : List ℕ) → length p ≤ 16384 → length (blockFor number p) ≤ 16387

@@ -11,8 +11,10 @@ use Rattle.packed.specs.declared.Fit.the-variants.{Length, TooShort}
 use Rattle.pages.specs.declared.Model.{Model}
 use Rattle.pages.specs.declared.Slot.{Slot}
 use Rattle.pages.specs.Pages.{slot, slots, pageIn}
-use Rattle.z80write.specs.Written.{blockFor, laid}
-use Rattle.z80write.specs.Inner.{LaidDown, NoRoom, Lays, SlotAt}
+use Rattle.block_write.specs.BlockFor.{blockFor}
+use Rattle.z80write.specs.Written.{laid}
+use Rattle.block_write.specs.Inner.{LaidDown, NoRoom, Lays}
+use Rattle.z80write.specs.Inner.{SlotAt}
 
 -- the file's front stands in d up to `at`, and the blocks from i on are left
 pub record Going (model : Model) (area d₀ : List ℕ) (from : ℕ) (d : List ℕ) (i at : ℕ) : Type 0 where

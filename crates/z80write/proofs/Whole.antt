@@ -18,7 +18,7 @@ use Rattle.header_write.specs.Writing.{headerOf}
 use Rattle.header_write.proofs.WriteSteps.{header-length}
 use Rattle.z80write.specs.declared.Written.{Written}
 use Rattle.z80write.specs.Written.{laid, fileOf, WriteResult, refusedWrite, acceptedWrite, writtenOf, Writes}
-use Rattle.z80write.specs.Inner.{LaidDown, NoRoom, Lays}
+use Rattle.block_write.specs.Inner.{LaidDown, NoRoom, Lays}
 
 abbrev pub blocksOf : Machine → List ℕ → List ℕ
 blocksOf m area = laid (slots (m .model)) area

@@ -10,7 +10,8 @@ use Rattle.spectrum.specs.declared.Machine.{Machine}
 use Rattle.pages.specs.declared.Model.the-variants.{K128}
 use Rattle.numbers.specs.declared.Answer.the-variants.{Accepted}
 use Rattle.spectrum.specs.Valid.{Typed, validOf}
-use Rattle.z80write.specs.Written.{blockFor, fileOf, acceptedWrite, writtenOf}
+use Rattle.block_write.specs.BlockFor.{blockFor}
+use Rattle.z80write.specs.Written.{fileOf, acceptedWrite, writtenOf}
 
 pub record Theorems : Type 0 where
   -- "shorter than 16,384 bytes, else FFFF": a page that packs to exactly 16,384 bytes goes plain

@@ -1,12 +1,11 @@
 -- "Writing: the v3 header, then blocks by ascending block number, each packed if that is shorter than 16,384 bytes, else FFFF.
 -- The answer gives the file's length; output past it is set to zero."
-use Prim.Native.Nat.{ℕ, _-_, _/_, _%_}
+use Prim.Native.Nat.{ℕ, _-_}
 use mathlib.Core.Path.{_≡_}
 use mathlib.Core.List.{List, [], _∷_, _++_}
 use lib.ListN.{length, replicate}
-use lib.Dec.{eqb, ltb, leb}
+use lib.Dec.{eqb, leb}
 use Rattle.slices.specs.Choose.{choose}
-use Rattle.packed.specs.Packed.{packed}
 use Rattle.spectrum.specs.declared.Machine.{Machine}
 use Rattle.pages.specs.declared.Slot.{Slot}
 use Rattle.numbers.specs.declared.Refusal.{Refusal}
@@ -16,14 +15,8 @@ use Rattle.numbers.specs.declared.Answer.the-variants.{Accepted, Refused}
 use Rattle.pages.specs.Pages.{slots, pageIn}
 use Rattle.spectrum.specs.Valid.{validOf}
 use Rattle.header_write.specs.Writing.{headerOf}
+use Rattle.block_write.specs.BlockFor.{blockFor}
 use Rattle.z80write.specs.declared.Written.{Written}
-
--- a block: its length, its number, the page packed; or FFFF, its number, the page as it is
-unfoldable pub blockFor : ℕ → List ℕ → List ℕ
-blockFor number page =
-    choose (ltb (length (packed page)) 16384)
-    (length (packed page) % 256 ∷ length (packed page) / 256 ∷ number ∷ packed page)
-    (255 ∷ 255 ∷ number ∷ page)
 
 -- the blocks of a table's pages, in its order
 unfoldable pub laid : List Slot → List ℕ → List ℕ

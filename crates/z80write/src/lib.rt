@@ -1,20 +1,19 @@
 // Writing the one v3 file of a machine and its memory: blocks are packed into the output itself, then the header.
-// Above packing and header, through their promises alone.
+// Above block_write and header_write, through their promises alone.
 use numbers::Answer;
 use numbers::Refusal;
 use packed::Fit;
 use pages::Model;
 use pages::Slot;
 use spectrum::Machine;
-ghost use Prim.Native.Nat.{_+_, _/_, _%_, _≤_, _<_};
+ghost use Prim.Native.Nat.{_≤_, _<_};
 ghost use mathlib.Core.Path.{_≡_};
-ghost use mathlib.Core.List.{_∷_, []};
 ghost use lib.ListN.{length};
-ghost use Rattle.slices.specs.Put.{put};
 ghost use Rattle.pages.specs.declared.Model.the-variants.{K48, K128};
 ghost use Rattle.pages.specs.Pages.{slots};
-ghost use Rattle.z80write.specs.Written.{blockFor, laid, refusedWrite, writtenOf, Writes};
-ghost use Rattle.z80write.specs.Inner.{PackedAt, Lays, SlotAt};
+ghost use Rattle.block_write.specs.Inner.{Lays};
+ghost use Rattle.z80write.specs.Written.{laid, refusedWrite, writtenOf, Writes};
+ghost use Rattle.z80write.specs.Inner.{SlotAt};
 
 // The answer of writing, and the file's length.
 pub struct Written {
@@ -72,7 +71,7 @@ fn lay(area: &[u8], model: Model, out: &mut [u8], from: usize) -> Fit
         let slot = slot_at(model, i);
         let base = slot.page * 16384;
         let top = base + 16384;
-        match write_block(&area[base..top], slot.number, out, at) {
+        match block_write::write_block(&area[base..top], slot.number, out, at) {
             Fit::Length(e) => {
                 at = e;
                 i += 1;
@@ -81,51 +80,6 @@ fn lay(area: &[u8], model: Model, out: &mut [u8], from: usize) -> Fit
         }
     }
     Fit::Length(at)
-}
-
-// A page's block from `at` on, and where it ends: packed where that is shorter than 16,384 bytes, in one pass.
-fn write_block(page: &[u8], number: u8, out: &mut [u8], at: usize) -> Fit
-    requires { ⌜ (length (now page) ≡ 16384) × (at ≤ length (now out)) ⌝ }
-    ensures { λ r. ⌜ Lays (blockFor number (now (page .entry))) (now (out .entry)) at r (now (out .exit)) ⌝ }
-{
-    let room = out.len() - at;
-    if room < 3 {
-        return Fit::TooShort;
-    }
-    let start = at + 3;
-    let end = start + slices::least(room - 3, 16383);
-    match pack_at(page, out, start, end) {
-        Fit::Length(n) => {
-            put_head(out, at, n, number);
-            return Fit::Length(start + n);
-        }
-        Fit::TooShort => {
-            if room - 3 < 16384 {
-                return Fit::TooShort;
-            }
-            put_head(out, at, 65535, number);
-            slices::put_at(out, start, page);
-            return Fit::Length(start + 16384);
-        }
-    }
-}
-
-// src packed into the output's own part from a to e.
-fn pack_at(src: &[u8], out: &mut [u8], a: usize, e: usize) -> Fit
-    requires { ⌜ (a ≤ e) × (e ≤ length (now out)) ⌝ }
-    ensures { λ r. ⌜ PackedAt (now (src .entry)) (now (out .entry)) a e r (now (out .exit)) ⌝ }
-{
-    packing::pack(src, &mut out[a..e])
-}
-
-// A block's head: the length's two bytes and the number.
-fn put_head(out: &mut [u8], at: usize, n: usize, number: u8)
-    requires { ⌜ (at + 3 ≤ length (now out)) × (n < 65536) ⌝ }
-    ensures { λ _. ⌜ now (out .exit) ≡ put (now (out .entry)) at (n % 256 ∷ n / 256 ∷ number ∷ []) ⌝ }
-{
-    out[at] = (n % 256) as u8;
-    out[at + 1] = (n / 256) as u8;
-    out[at + 2] = number;
 }
 
 // How many blocks a file has.

@@ -1,4 +1,4 @@
-use Rattle.z80write.proofs.Parts.{slot-small}
+use Rattle.z80write.proofs.Slots.{slot-small}
 use borrow.Author.Needs.{needs}
 use Rattle.z80write.proofs.slot_128.Statement.{statement}
 use Rattle.z80write.proofs.slot_128.Tie as tie

@@ -1,4 +1,4 @@
-use Rattle.z80write.proofs.Parts.{slot-0, slot-1, slot-2}
+use Rattle.z80write.proofs.Slots.{slot-0, slot-1, slot-2}
 use Rattle.z80write.proofs.slot_48.Statement.{statement}
 use Rattle.z80write.proofs.slot_48.Tie as tie
 

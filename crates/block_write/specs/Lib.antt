@@ -1,0 +1,2 @@
+pub mod BlockFor
+pub mod Inner
