@@ -37,7 +37,7 @@ extern "C" {
 #define SNAP_LOG_STEP 11u
 #define SNAP_LOG_STEPS 4096u
 #define SNAP_LOG_MOST 45056u
-/* No call uses more bytes of stack; measured on x86-64, about twice what the deepest call uses. */
+/* No call uses more bytes of stack; measured on x86-64, half as much again as the deepest call uses. */
 #define SNAP_STACK_MOST 2048u
 
 enum snap_number {
