@@ -1,12 +1,17 @@
 /*
  * snapshot.h: saved Spectrums (.Z80 files) read, viewed, corrected and written.
  *
- * Every function answers a number of `enum snap_number`, SNAP_ACCEPTED (0) or why it refused. None trusts its caller: each
- * takes every length and every byte, and every byte of the buffers lent to it is settled when it returns, refused or not.
+ * Answers: every function but snap_version and snap_sentence answers a number of `enum snap_number`, SNAP_ACCEPTED (0) or why it refused. None
+ * trusts its caller: each takes every length and every byte, and every byte of the buffers lent to it is settled when it
+ * returns, refused or not.
  *
- * No call uses more than SNAP_STACK_MOST bytes of stack; a program that is not linked with -z now needs some more for the
- * dynamic linker, at the first memcpy and memset. The library uses no heap and no static data that can be written, so calls
- * on different buffers may run in different threads at once.
+ * Stack: no call uses more than SNAP_STACK_MOST bytes. A program that is not linked with -z now needs some more for the
+ * dynamic linker, which binds a function (these, and memcpy and memset) at its first call.
+ *
+ * Heap: none. The library allocates nothing, and keeps no pointer after a call.
+ *
+ * Threads: the library has no static data that can be written, so calls on different buffers may run in different threads at
+ * once. Two calls may share a buffer at once where both only read it.
  *
  * Rules for the caller, which no function can check:
  *   - the buffers lent to one call do not overlap;
@@ -22,23 +27,98 @@
 extern "C" {
 #endif
 
+/* The version of this header, 10000 * major + 100 * minor + patch; snap_version answers the linked library's. */
+#define SNAP_VERSION 200u
+#define SNAP_VERSION_TEXT "0.2.0"
+
 /* Sizes in bytes. RAM pages 0 to 7 lie in the area in that order. */
 #define SNAP_PAGE_SIZE 16384u
 #define SNAP_AREA_SIZE 131072u
 #define SNAP_ROM_SIZE_48K 16384u
 #define SNAP_ROM_SIZE_128K 32768u
-/* The machine crosses as the 86-byte v3 header that snap_z80_write makes for it. */
+/* The machine crosses as the 86-byte v3 header that snap_z80_write makes for it; `enum snap_at` names its bytes. */
 #define SNAP_HEADER_SIZE 86u
 /* No written file is longer. */
 #define SNAP_FILE_MOST 131182u
 /* No file that reading accepts is longer: 86 bytes and eight blocks of 3 and at most 65,534. */
 #define SNAP_READ_MOST 524382u
-/* A log: so many bytes hold a step, and no more steps than these are used. */
+/* A log: so many bytes hold a step (`enum snap_step` names them), and no more steps than these are used. */
 #define SNAP_LOG_STEP 11u
 #define SNAP_LOG_STEPS 4096u
 #define SNAP_LOG_MOST 45056u
 /* No call uses more bytes of stack; measured on x86-64, half as much again as the deepest call uses. */
 #define SNAP_STACK_MOST 2048u
+/* A quarter of a frame in T states, for the clock's two counters. */
+#define SNAP_QUARTER_48K 17472u
+#define SNAP_QUARTER_128K 17727u
+
+/*
+ * The header's 86 bytes: where each field starts. Words have their low byte first; FF and addresses are hexadecimal. A byte
+ * that is set to what is not said here makes the machine not valid, and every call that is given it answers 20.
+ */
+enum snap_at {
+    SNAP_AT_A = 0,
+    SNAP_AT_F = 1,
+    SNAP_AT_BC = 2, /* word */
+    SNAP_AT_HL = 4, /* word */
+    SNAP_AT_PC_V1 = 6, /* word, always 0: PC is at 32 */
+    SNAP_AT_SP = 8, /* word */
+    SNAP_AT_I = 10,
+    SNAP_AT_R = 11, /* bits 0 to 6 of R; bit 7 is 0 here */
+    SNAP_AT_FLAGS = 12, /* bit 0: bit 7 of R; bits 1 to 3: border; the rest 0 */
+    SNAP_AT_DE = 13, /* word */
+    SNAP_AT_BC_ALT = 15, /* word */
+    SNAP_AT_DE_ALT = 17, /* word */
+    SNAP_AT_HL_ALT = 19, /* word */
+    SNAP_AT_A_ALT = 21,
+    SNAP_AT_F_ALT = 22,
+    SNAP_AT_IY = 23, /* word */
+    SNAP_AT_IX = 25, /* word */
+    SNAP_AT_IFF1 = 27, /* 0 or 1 */
+    SNAP_AT_IFF2 = 28, /* 0 or 1 */
+    /* bits 0, 1: interrupt mode, 0 to 2; bit 2: issue 2 keyboard; bit 3: double interrupts; bits 4, 5: video, 0 normal,
+       1 high, 3 low; bits 6, 7: joystick, 0 Cursor, 1 Kempston, 2 Sinclair left or user defined, 3 Sinclair right */
+    SNAP_AT_SETTINGS = 29,
+    SNAP_AT_LENGTH = 30, /* word, always 54: the header's bytes from 32 on */
+    SNAP_AT_PC = 32, /* word */
+    SNAP_AT_MODE = 34, /* a number of `enum snap_mode` */
+    SNAP_AT_OUT_7FFD = 35, /* last OUT to 7FFD; this and the bytes 38 to 54 are 0 on a 48K machine */
+    SNAP_AT_INTERFACE_1_ROM = 36, /* kept as it is; FF where the ROM of Interface I is paged in */
+    SNAP_AT_EMULATION = 37, /* bit 0: R emulation; bit 1: LDIR emulation; the rest 0 */
+    SNAP_AT_OUT_FFFD = 38, /* last OUT to FFFD, the number of a sound register */
+    SNAP_AT_SOUND = 39, /* 16 sound registers */
+    /* With q a quarter of this machine's frame, low below q and high at most 3, the place of the clock in its frame is
+       (high + 1) % 4 * q + (q - 1 - low). */
+    SNAP_AT_LOW_COUNTER = 55, /* word */
+    SNAP_AT_HIGH_COUNTER = 57,
+    SNAP_AT_SPECTATOR = 58, /* always 0 */
+    /* the 26 side bytes, 59 and 61 to 85, are kept as they are; here is what emulators mean by them */
+    SNAP_AT_MGT_ROM = 59, /* FF where the ROM of the M.G.T. is paged in */
+    SNAP_AT_MULTIFACE_ROM = 60, /* always 0 */
+    SNAP_AT_ROM_LOW = 61, /* FF where 0000 to 1FFF is ROM, 0 where it is RAM */
+    SNAP_AT_ROM_HIGH = 62, /* the same of 2000 to 3FFF */
+    SNAP_AT_KEYS = 63, /* five words: the joystick's keys, left, right, down, up, fire */
+    SNAP_AT_KEY_LETTERS = 73, /* five words: their letters, in the same order */
+    SNAP_AT_MGT_TYPE = 83, /* 0 Disciple with Epson, 1 Disciple with HP, 16 Plus D */
+    SNAP_AT_INHIBIT_BUTTON = 84, /* 0 out, FF in */
+    SNAP_AT_INHIBIT_FLAG = 85 /* 0 the ROM can be paged in, FF not */
+};
+
+/* Masks for the bits of the bytes 12, 29 and 37, and of the last OUT to 7FFD. */
+enum snap_bits {
+    SNAP_FLAGS_R7 = 0x01, SNAP_FLAGS_BORDER = 0x0E,
+    SNAP_SETTINGS_INTERRUPT_MODE = 0x03, SNAP_SETTINGS_ISSUE_2 = 0x04, SNAP_SETTINGS_DOUBLE_INTERRUPTS = 0x08,
+    SNAP_SETTINGS_VIDEO = 0x30, SNAP_SETTINGS_JOYSTICK = 0xC0,
+    SNAP_EMULATION_R = 0x01, SNAP_EMULATION_LDIR = 0x02,
+    /* the page at C000; the screen in page 7 and not 5; the second 16K of ROM and not the first; paging locked */
+    SNAP_7FFD_PAGE = 0x07, SNAP_7FFD_SCREEN = 0x08, SNAP_7FFD_ROM = 0x10, SNAP_7FFD_LOCK = 0x20
+};
+
+/* Byte 34: the model, and what is attached to it. snap_model takes it apart. */
+enum snap_mode {
+    SNAP_MODE_48K = 0, SNAP_MODE_48K_INTERFACE_1 = 1, SNAP_MODE_48K_MGT = 3,
+    SNAP_MODE_128K = 4, SNAP_MODE_128K_INTERFACE_1 = 5, SNAP_MODE_128K_MGT = 6
+};
 
 enum snap_number {
     SNAP_ACCEPTED = 0,
@@ -113,6 +193,9 @@ static inline const char *snap_sentence(uint32_t number)
     }
 }
 
+/* The version of the library that is linked, to be held to SNAP_VERSION. It has no refusal. */
+uint32_t snap_version(void);
+
 /*
  * Reads a .Z80 file, v1, v2 or v3: header becomes the machine's, area its memory, pages that it does not own zero.
  * Refused (1 to 14; 20 for a header buffer of another length): area all zero, header the blank machine's, or zeros at
@@ -126,6 +209,7 @@ uint32_t snap_z80_read(const uint8_t *file, size_t file_len,
  * Writes the one v3 file of a machine and its memory; *length is its length, and out is zero past it.
  * Refused: 20 where header is not 86 bytes that this function makes, 21 where area is not SNAP_AREA_SIZE bytes,
  * 22 where out is shorter than the file; then *length is 0 and out all zero.
+ * Pages that the machine does not own are not looked at: what stands there is not in the file, and is zero when it is read.
  */
 uint32_t snap_z80_write(const uint8_t *header, size_t header_len,
                         const uint8_t *area, size_t area_len,
@@ -136,6 +220,8 @@ uint32_t snap_z80_write(const uint8_t *header, size_t header_len,
  * Where a page lies: 0 to 7 RAM, 8 the first 16K of ROM, 9 the second (128K only). It is *length bytes from *start on, in
  * rom where *in_rom is 1, in area where it is 0. Refused, all three are 0: 20 header, 21 area, 31 ROM not of this
  * machine's length, 30 a page that the machine does not have.
+ * The ROM's length is asked for RAM pages too: a program that has no ROM lends any buffer of SNAP_ROM_SIZE_48K or
+ * SNAP_ROM_SIZE_128K bytes.
  */
 uint32_t snap_view(const uint8_t *header, size_t header_len,
                    const uint8_t *rom, size_t rom_len,
@@ -143,12 +229,52 @@ uint32_t snap_view(const uint8_t *header, size_t header_len,
                    uint8_t page,
                    uint8_t *in_rom, uint64_t *start, uint64_t *length);
 
+/* Looking at a machine: its model and attachment. Refused, here and in the next two: 20 header; then the figures are 0. */
+enum snap_model { SNAP_48K = 0, SNAP_128K = 1 };
+enum snap_attachment { SNAP_NO_ATTACHMENT = 0, SNAP_INTERFACE_1 = 1, SNAP_MGT = 2 };
+uint32_t snap_model(const uint8_t *header, size_t header_len, uint8_t *model, uint8_t *attachment);
+
+/* A register pair's value; in AF and AF' the A is the high byte. Refused also: 32 pair above 11. */
+enum snap_pair {
+    SNAP_AF, SNAP_BC, SNAP_DE, SNAP_HL,
+    SNAP_AF_ALT, SNAP_BC_ALT, SNAP_DE_ALT, SNAP_HL_ALT,
+    SNAP_IX, SNAP_IY, SNAP_SP, SNAP_PC,
+    SNAP_PAIRS
+};
+uint32_t snap_pair(const uint8_t *header, size_t header_len, uint8_t pair, uint16_t *value);
+
+/* Where an address leads as paging is now: an offset in a RAM page, or ROM (*in_rom is 1, *page and *offset are 0). */
+uint32_t snap_place(const uint8_t *header, size_t header_len, uint16_t address,
+                    uint8_t *in_rom, uint8_t *page, uint16_t *offset);
+
 /*
  * Starts a correction log: lent bytes and two numbers, how many corrections stand and how many stand or wait.
  * The log becomes all zero and both numbers 0. Never refused; a log of log_len bytes holds log_len / SNAP_LOG_STEP steps,
  * SNAP_LOG_STEPS at most.
  */
 uint32_t snap_log_start(uint8_t *log, size_t log_len, uint64_t *standing, uint64_t *total);
+
+/* A step of the log: where each of its fields starts, words low byte first. The first step stands at the log's start. */
+enum snap_step {
+    SNAP_STEP_TAG = 0,
+    SNAP_STEP_LENGTH = 1, /* word, always 8 */
+    SNAP_STEP_INDEX = 3, /* the RAM page, the pair, or 0 */
+    SNAP_STEP_OFFSET = 4, /* word: the offset in the page, or 0 */
+    SNAP_STEP_OLD = 6, /* word */
+    SNAP_STEP_NEW = 8, /* word */
+    SNAP_STEP_END = 10 /* always 0 */
+};
+/* The tag: what was corrected. */
+enum snap_tag { SNAP_STEP_BYTE = 1, SNAP_STEP_PAIR = 2, SNAP_STEP_OUT = 3 };
+
+/*
+ * A log and its two numbers may be stored, with the machine and memory as they were then, and handed back later.
+ * 29 guards the log: numbers that lead out of it are refused; wrong ones that stay inside it are not seen.
+ * 28 guards the one step that undo or redo takes: it is refused where its bytes have another form, where it names a place
+ * that this machine does not have, and where the value there is not the step's new one (undo) or old one (redo). No other
+ * step is looked at, and nothing says whose log it is: a log of another machine whose step happens to fit is taken. So keep
+ * a sum of machine and memory beside a stored log, as the tool does.
+ */
 
 /*
  * The three corrections, undo and redo. Refused, nothing changes: first 20 header, 21 area, 29 not standing <= total <=
@@ -161,13 +287,7 @@ uint32_t snap_correct_byte(uint8_t *header, size_t header_len, uint8_t *area, si
                            uint8_t *log, size_t log_len, uint64_t *standing, uint64_t *total,
                            uint16_t address, uint8_t value);
 
-/* A register pair; in AF and AF' the A is the high byte. Refused: 32 pair above 11. */
-enum snap_pair {
-    SNAP_AF, SNAP_BC, SNAP_DE, SNAP_HL,
-    SNAP_AF_ALT, SNAP_BC_ALT, SNAP_DE_ALT, SNAP_HL_ALT,
-    SNAP_IX, SNAP_IY, SNAP_SP, SNAP_PC,
-    SNAP_PAIRS
-};
+/* A register pair. Refused: 32 pair above 11. */
 uint32_t snap_correct_pair(uint8_t *header, size_t header_len, uint8_t *area, size_t area_len,
                            uint8_t *log, size_t log_len, uint64_t *standing, uint64_t *total,
                            uint8_t pair, uint16_t value);

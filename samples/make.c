@@ -78,17 +78,23 @@ static void load_code(const char *name)
     fclose(from);
 }
 
+static void put_word(unsigned place, unsigned value)
+{
+    header[place] = value & 255;
+    header[place + 1] = (uint8_t)(value >> 8);
+}
+
 /* The blank machine's header is what a refused read leaves; these bytes of it are ours. */
 static void make_machine(void)
 {
     snap_z80_read(NULL, 0, area, sizeof area, header, sizeof header);
-    header[8] = 0xF0, header[9] = 0xBF;                      /* SP */
-    header[10] = 0x3F;                                       /* I */
-    header[12] = 1 << 1;                                     /* border blue */
-    header[23] = 0x3A, header[24] = 0x5C;                    /* IY, as the ROM wants it */
-    header[27] = header[28] = 1;                             /* interrupts on */
-    header[29] = 1;                                          /* mode 1 */
-    header[32] = CODE_ADDRESS & 255, header[33] = CODE_ADDRESS >> 8; /* PC */
+    put_word(SNAP_AT_SP, 0xBFF0);
+    put_word(SNAP_AT_IY, 0x5C3A); /* as the ROM wants it */
+    put_word(SNAP_AT_PC, CODE_ADDRESS);
+    header[SNAP_AT_I] = 0x3F;
+    header[SNAP_AT_FLAGS] = 1 << 1; /* border blue */
+    header[SNAP_AT_IFF1] = header[SNAP_AT_IFF2] = 1;
+    header[SNAP_AT_SETTINGS] = 1; /* interrupt mode 1 */
 }
 
 static void save(const char *name)
@@ -109,8 +115,8 @@ int main(int argc, char **argv)
     save(argv[3]);
 
     /* the 128K machine shows page 7, and each of its other pages says which it is */
-    header[34] = 4;
-    header[35] = 16 + 8;
+    header[SNAP_AT_MODE] = SNAP_MODE_128K;
+    header[SNAP_AT_OUT_7FFD] = SNAP_7FFD_ROM | SNAP_7FFD_SCREEN;
     memcpy(area + 7 * SNAP_PAGE_SIZE, area + 5 * SNAP_PAGE_SIZE, 6912);
     memset(area + 5 * SNAP_PAGE_SIZE, 0, SNAP_PAGE_SIZE);
     for (unsigned page = 0; page < 7; page++)

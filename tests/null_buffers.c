@@ -20,7 +20,8 @@ int main(void)
 {
     static uint8_t area[SNAP_AREA_SIZE], header[SNAP_HEADER_SIZE], file[SNAP_FILE_MOST];
     uint64_t length = 7, start = 7, standing = 7, total = 7;
-    uint8_t in_rom = 7;
+    uint8_t in_rom = 7, model = 7, attachment = 7, page = 7;
+    uint16_t value = 7, offset = 7;
     expect("no file", snap_z80_read(NULL, 0, area, sizeof area, header, sizeof header), 2);
     expect("no area", snap_z80_read(file, sizeof file, NULL, 0, header, sizeof header), 1);
     expect("no header", snap_z80_read(file, sizeof file, area, sizeof area, NULL, 0), 20);
@@ -30,6 +31,11 @@ int main(void)
     expect("write, no output", snap_z80_write(header, sizeof header, area, sizeof area, NULL, 0, &length), 22);
     expect("view, no ROM", snap_view(header, sizeof header, NULL, 0, area, sizeof area, 5, &in_rom, &start, &length), 31);
     expect("view, no area", snap_view(header, sizeof header, NULL, 0, NULL, 0, 5, &in_rom, &start, &length), 21);
+    expect("model, no header", snap_model(NULL, 0, &model, &attachment), 20);
+    expect("pair, no header", snap_pair(NULL, 0, SNAP_PC, &value), 20);
+    in_rom = 7;
+    expect("place, no header", snap_place(NULL, 0, 0xFFFF, &in_rom, &page, &offset), 20);
+    expect("every figure of the three", model | attachment | value | in_rom | page | offset, 0);
     expect("start, no log", snap_log_start(NULL, 0, &standing, &total), 0);
     expect("byte, no log", snap_correct_byte(header, sizeof header, area, sizeof area, NULL, 0, &standing, &total, 0x4000, 1), 26);
     expect("pair, no area", snap_correct_pair(header, sizeof header, NULL, 0, NULL, 0, &standing, &total, 0, 1), 21);

@@ -6,25 +6,29 @@
 #include "tool.h"
 
 static const char help_text[] =
-    "byte ADDRESS VALUE   corrects a byte, as paging is now\n"
-    "pair NAME VALUE      corrects a register pair: AF BC DE HL AF' BC' DE' HL' IX IY SP PC\n"
-    "out VALUE            corrects the last OUT to 7FFD (128K)\n"
-    "undo [COUNT]         takes back the last correction, or so many\n"
-    "redo [COUNT]         makes the next undone correction again, or so many\n"
-    "list                 the corrections that stand, and those that wait to be redone\n"
-    "info                 the machine\n"
-    "view PAGE            a RAM page as hex and text\n"
-    "save                 writes the output and the log\n"
-    "quit                 ends; what is not saved is lost\n"
-    "Addresses and values are hexadecimal, with or without 0x, $ or # before them; counts and pages are decimal.\n";
+    "byte ADDRESS VALUE..  corrects a byte, as paging is now, or up to 64 from there\n"
+    "text ADDRESS \"..\"     corrects bytes to a text\n"
+    "pair NAME VALUE       corrects a register pair:\n"
+    "                      AF BC DE HL AF' BC' DE' HL' IX IY SP PC\n"
+    "out VALUE             corrects the last OUT to 7FFD (128K)\n"
+    "undo [COUNT]          takes back the last correction, or so many\n"
+    "redo [COUNT]          makes the next undone correction again, or so many\n"
+    "list                  the corrections that stand, and those that wait\n"
+    "info                  the machine\n"
+    "view PAGE             a RAM page as hex and text\n"
+    "view FROM..TO         addresses as hex and text, as paging is now\n"
+    "save [NAME]           writes the output, or the file of that name, and the log\n"
+    "save --force [NAME]   also over what something else has changed or made there\n"
+    "quit, exit, q         ends; what is not saved is lost\n"
+    "help, ?               this list\n"
+    "Addresses and values are hexadecimal, with or without 0x, $ or # before them;\n"
+    "counts and pages are decimal.\n";
 
-#define WORDS 3
-
-struct line {
+/* A line that is being run. */
+struct run {
     struct session *session;
-    const char *place;
-    char *words[WORDS];
-    int count;
+    const char *place, *form;
+    struct line line;
 };
 
 /* What every call of the library over a log is lent. */
@@ -32,102 +36,126 @@ struct line {
     (s)->opened.header, sizeof (s)->opened.header, (s)->opened.area, sizeof (s)->opened.area, \
     (s)->log.steps, sizeof (s)->log.steps, &(s)->log.standing, &(s)->log.total
 
-static bool take_hex(const char *text, unsigned long most, unsigned long *value)
+/* The line is not of the form that its command has. */
+static enum status wrong(const struct run *run)
 {
-    char *end;
-    text += strncasecmp(text, "0x", 2) == 0 ? 2 : text[0] == '$' || text[0] == '#' ? 1 : 0;
-    if (strspn(text, "0123456789abcdefABCDEF") == 0 || strlen(text) > 8)
-        return false;
-    *value = strtoul(text, &end, 16);
-    return *end == 0 && *value <= most;
+    return misused("%s: %s", run->place, run->form);
 }
 
-static bool take_decimal(const char *text, unsigned long most, unsigned long *value)
+static const char *word(const struct run *run, unsigned at)
 {
-    char *end;
-    if (strspn(text, "0123456789") == 0 || strlen(text) > 8)
-        return false;
-    *value = strtoul(text, &end, 10);
-    return *end == 0 && *value <= most;
-}
-
-static enum status wrong(const struct line *line, const char *sentence)
-{
-    return misused("%s: %s", line->place, sentence);
+    return run->line.words[at].text;
 }
 
 /* After a call: what was done, or the refusal. */
-static enum status told(const struct line *line, uint32_t number, const char *done, uint64_t step, bool back)
+static enum status told(const struct run *run, uint32_t number, const char *done, uint64_t step, bool back)
 {
     if (number != SNAP_ACCEPTED)
-        return refused(line->place, number);
-    line->session->unsaved = true;
+        return refused(run->place, number);
+    run->session->unsaved++;
     fputs(done, stdout);
-    print_step(stdout, &line->session->log, step, back);
+    print_step(stdout, &run->session->log, step, back);
     return ACCEPTED;
 }
 
-static enum status corrected(const struct line *line, uint32_t number)
+static enum status corrected(const struct run *run, uint32_t number)
 {
-    return told(line, number, "corrected: ", line->session->log.standing - 1, false);
+    return told(run, number, "corrected: ", run->session->log.standing - 1, false);
 }
 
-static enum status do_byte(const struct line *line)
+/* Bytes from an address on, all or none: with room for all of them only the first can be refused. */
+static enum status correct_bytes(const struct run *run, unsigned long address, const uint8_t *bytes, size_t count)
 {
+    const struct log *log = &run->session->log;
+    if (address + count > 0x10000)
+        return misused("%s: the last byte would be past FFFF", run->place);
+    if (address >= 0x4000 && log->standing + count > SNAP_LOG_STEPS)
+        return refused(run->place, SNAP_LOG_FULL);
+    enum status status = ACCEPTED;
+    for (size_t at = 0; at < count && status == ACCEPTED; at++)
+        status = corrected(run, snap_correct_byte(LENT(run->session), (uint16_t)(address + at), bytes[at]));
+    return status;
+}
+
+static enum status do_byte(const struct run *run)
+{
+    uint8_t bytes[LINE_WORDS];
     unsigned long address, value;
-    if (line->count != 3 || !take_hex(line->words[1], 0xFFFF, &address) || !take_hex(line->words[2], 0xFF, &value))
-        return wrong(line, "byte ADDRESS VALUE, as in: byte 8000 7E");
-    return corrected(line, snap_correct_byte(LENT(line->session), (uint16_t)address, (uint8_t)value));
+    unsigned count = run->line.count - 2;
+    if (!take_hex(word(run, 1), 0xFFFF, &address))
+        return wrong(run);
+    for (unsigned at = 0; at < count; at++) {
+        if (!take_hex(word(run, at + 2), 0xFF, &value))
+            return wrong(run);
+        bytes[at] = (uint8_t)value;
+    }
+    return correct_bytes(run, address, bytes, count);
 }
 
-static enum status do_pair(const struct line *line)
+static enum status do_text(const struct run *run)
+{
+    unsigned long address;
+    const char *text = word(run, 2);
+    size_t length = strlen(text);
+    if (!take_hex(word(run, 1), 0xFFFF, &address) || !run->line.words[2].quoted || length == 0)
+        return wrong(run);
+    for (size_t at = 0; at < length; at++)
+        if (text[at] < 32 || text[at] > 126)
+            return misused("%s: a text has characters 32 to 126 of ASCII alone", run->place);
+    return correct_bytes(run, address, (const uint8_t *)text, length);
+}
+
+static enum status do_pair(const struct run *run)
 {
     unsigned long value;
     unsigned pair = 0;
-    while (line->count == 3 && pair < SNAP_PAIRS && strcasecmp(line->words[1], pair_names[pair]) != 0)
+    while (pair < SNAP_PAIRS && strcasecmp(word(run, 1), pair_names[pair]) != 0)
         pair++;
-    if (line->count != 3 || pair == SNAP_PAIRS || !take_hex(line->words[2], 0xFFFF, &value))
-        return wrong(line, "pair NAME VALUE, as in: pair HL 5C3A");
-    return corrected(line, snap_correct_pair(LENT(line->session), (uint8_t)pair, (uint16_t)value));
+    if (pair == SNAP_PAIRS || !take_hex(word(run, 2), 0xFFFF, &value))
+        return wrong(run);
+    return corrected(run, snap_correct_pair(LENT(run->session), (uint8_t)pair, (uint16_t)value));
 }
 
-static enum status do_out(const struct line *line)
+static enum status do_out(const struct run *run)
 {
     unsigned long value;
-    if (line->count != 2 || !take_hex(line->words[1], 0xFF, &value))
-        return wrong(line, "out VALUE, as in: out 10");
-    return corrected(line, snap_correct_out(LENT(line->session), (uint8_t)value));
+    if (!take_hex(word(run, 1), 0xFF, &value))
+        return wrong(run);
+    return corrected(run, snap_correct_out(LENT(run->session), (uint8_t)value));
 }
 
-/* Undo or redo, as many times as the line says. */
-static enum status move(const struct line *line, bool back)
+/* Undo or redo, as many times as the line says, if there are so many. */
+static enum status move(const struct run *run, bool back)
 {
-    struct session *session = line->session;
+    struct session *session = run->session;
     unsigned long count = 1;
-    if (line->count > 2 || (line->count == 2 && !take_decimal(line->words[1], SNAP_LOG_STEPS, &count)))
-        return wrong(line, "undo or redo, alone or with how many, as in: undo 2");
+    if (run->line.count == 2 && !take_decimal(word(run, 1), SNAP_LOG_STEPS, &count))
+        return wrong(run);
+    const struct log *log = &session->log;
+    if (count > (back ? log->standing : log->total - log->standing))
+        return refused(run->place, SNAP_NOTHING_TO_MOVE);
     enum status status = ACCEPTED;
     for (; count > 0 && status == ACCEPTED; count--) {
         uint32_t number = back ? snap_undo(LENT(session)) : snap_redo(LENT(session));
         /* what was undone is now the first to wait, what was redone the last to stand */
-        status = told(line, number, back ? "undone: " : "redone: ", session->log.standing - !back, back);
+        status = told(run, number, back ? "undone: " : "redone: ", log->standing - !back, back);
     }
     return status;
 }
 
-static enum status do_undo(const struct line *line)
+static enum status do_undo(const struct run *run)
 {
-    return move(line, true);
+    return move(run, true);
 }
 
-static enum status do_redo(const struct line *line)
+static enum status do_redo(const struct run *run)
 {
-    return move(line, false);
+    return move(run, false);
 }
 
-static enum status do_list(const struct line *line)
+static enum status do_list(const struct run *run)
 {
-    const struct log *log = &line->session->log;
+    const struct log *log = &run->session->log;
     printf("standing: %u, waiting: %u\n", (unsigned)log->standing, (unsigned)(log->total - log->standing));
     for (uint64_t step = 0; step < log->total; step++) {
         printf("%4u %s ", (unsigned)(step + 1), step < log->standing ? "stands" : "waits ");
@@ -136,71 +164,92 @@ static enum status do_list(const struct line *line)
     return ACCEPTED;
 }
 
-static enum status do_info(const struct line *line)
+static enum status do_info(const struct run *run)
 {
-    print_info(stdout, line->session->file, &line->session->opened);
+    print_info(stdout, run->session->words->file, &run->session->opened);
     return ACCEPTED;
 }
 
-static enum status do_view(const struct line *line)
+static enum status do_view(const struct run *run)
 {
-    unsigned long page;
-    if (line->count != 2 || !take_decimal(line->words[1], 255, &page))
-        return wrong(line, "view PAGE, as in: view 5");
-    return print_page(stdout, line->session->file, &line->session->opened, page, NULL);
+    struct part part;
+    if (!take_part(word(run, 1), &part))
+        return wrong(run);
+    return print_part(stdout, run->place, run->session->words->file, &run->session->opened, &part, NULL);
 }
 
-static enum status do_save(const struct line *line)
+static enum status do_save(const struct run *run)
 {
-    struct session *session = line->session;
-    enum status status = save_snapshot(session->output, &session->opened);
-    if (status == ACCEPTED)
-        status = save_log(session->log_output, &session->opened, &session->log);
-    if (status == ACCEPTED) {
-        session->unsaved = false;
-        printf("saved: %s, log: %s\n", session->output, session->log_output);
+    const char *name = NULL;
+    bool force = false;
+    for (unsigned at = 1; at < run->line.count; at++) {
+        bool option = !run->line.words[at].quoted && word(run, at)[0] == '-';
+        if (option && !force && strcmp(word(run, at), "--force") == 0)
+            force = true;
+        else if (!option && name == NULL)
+            name = word(run, at);
+        else
+            return wrong(run);
     }
-    return status;
+    return save_session(run->session, name, force);
 }
 
-static enum status do_quit(const struct line *line)
+static enum status do_quit(const struct run *run)
 {
-    line->session->ended = true;
+    run->session->ended = true;
     return ACCEPTED;
 }
 
-static enum status do_help(const struct line *line)
+static enum status do_help(const struct run *run)
 {
-    (void)line;
+    (void)run;
     fputs(help_text, stdout);
     return ACCEPTED;
 }
 
-static const struct {
+/* Each command with how many words its line has, and its form. */
+static const struct form {
     const char *name;
-    enum status (*run)(const struct line *);
+    unsigned least, most;
+    const char *form;
+    enum status (*run)(const struct run *);
 } commands[] = {
-    {"byte", do_byte}, {"pair", do_pair}, {"out", do_out}, {"undo", do_undo}, {"redo", do_redo}, {"list", do_list},
-    {"info", do_info}, {"view", do_view}, {"save", do_save}, {"quit", do_quit}, {"help", do_help},
+    {"byte", 3, LINE_WORDS, "byte takes an address and 1 to 64 values, as in: byte 8000 7E", do_byte},
+    {"text", 3, 3, "text takes an address and a text in double quotes, as in: text 8000 \"HELLO\"", do_text},
+    {"pair", 3, 3, "pair takes a name and a value, as in: pair HL 5C3A", do_pair},
+    {"out", 2, 2, "out takes a value, as in: out 10", do_out},
+    {"undo", 1, 2, "undo takes nothing, or how many, as in: undo 2", do_undo},
+    {"redo", 1, 2, "redo takes nothing, or how many, as in: redo 2", do_redo},
+    {"list", 1, 1, "list takes nothing", do_list},
+    {"info", 1, 1, "info takes nothing", do_info},
+    {"view", 2, 2, "view takes a page or two addresses, as in: view 5, view 8000..80FF", do_view},
+    {"save", 1, 3, "save takes nothing, or --force, a name (in double quotes if it has blanks), or both", do_save},
+    {"quit", 1, 1, "quit takes nothing", do_quit},
+    {"exit", 1, 1, "exit takes nothing", do_quit},
+    {"q", 1, 1, "q takes nothing", do_quit},
+    {"help", 1, 1, "help takes nothing", do_help},
+    {"?", 1, 1, "? takes nothing", do_help},
 };
+
+const char *command_name(size_t at)
+{
+    return at < sizeof commands / sizeof commands[0] ? commands[at].name : NULL;
+}
 
 enum status run_line(struct session *session, const char *place, char *text)
 {
-    struct line line = {.session = session, .place = place};
-    text[strcspn(text, ";\r\n")] = 0;
-    for (char *rest = text; (rest += strspn(rest, " \t"))[0] != 0;) {
-        char *word = rest;
-        rest += strcspn(rest, " \t");
-        if (*rest != 0)
-            *rest++ = 0;
-        if (line.count == WORDS)
-            return wrong(&line, "too many words; see 'help'");
-        line.words[line.count++] = word;
-    }
-    if (line.count == 0)
+    struct run run = {.session = session, .place = place};
+    const char *unreadable = take_words(text, &run.line);
+    if (unreadable != NULL)
+        return misused("%s: %s", place, unreadable);
+    if (run.line.count == 0)
         return ACCEPTED;
-    for (size_t at = 0; at < sizeof commands / sizeof commands[0]; at++)
-        if (strcasecmp(line.words[0], commands[at].name) == 0)
-            return commands[at].run(&line);
-    return wrong(&line, "there is no such command; see 'help'");
+    for (size_t at = 0; at < sizeof commands / sizeof commands[0]; at++) {
+        const struct form *command = &commands[at];
+        if (strcasecmp(word(&run, 0), command->name) != 0)
+            continue;
+        run.form = command->form;
+        return run.line.count < command->least || run.line.count > command->most ? wrong(&run) : command->run(&run);
+    }
+    return misused("%s: there is no such command; see 'help'", place);
 }

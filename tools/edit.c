@@ -1,100 +1,92 @@
-/* edit.c: an editing session: at a prompt a refused line is told and the next one taken; a script ends there. */
+/* edit.c: an editing session, from the prompt or from a script, which ends at the first line that is refused. */
 #define _POSIX_C_SOURCE 200809L
-#include <editline/readline.h>
-#include <stdlib.h>
 #include <string.h>
 #include <unistd.h>
 
 #include "tool.h"
 
+#define SCRIPT_MOST (1u << 20)
+
 static struct session session;
 
-/* At the prompt the first quit, and the end of input, says what is not saved. */
-static enum status from_prompt(void)
+/* A script is plain text. */
+static enum status check_text(const char *name, const char *text, size_t length, bool first)
 {
-    bool warned = false;
-    while (!session.ended) {
-        char *line = readline("snapshot> ");
-        if (line == NULL) {
-            if (session.unsaved)
-                fputs("\nnot saved\n", stderr);
-            return ACCEPTED;
-        }
-        if (line[0] != 0)
-            add_history(line);
-        run_line(&session, session.file, line);
-        free(line);
-        if (session.ended && session.unsaved && !warned) {
-            fputs("there are corrections that are not saved: 'save', or 'quit' again\n", stderr);
-            session.ended = false;
-            warned = true;
-        }
-    }
+    static const char *const marks[] = {"\xEF\xBB\xBF", "\xFE\xFF", "\xFF\xFE"};
+    for (size_t at = 0; first && at < sizeof marks / sizeof marks[0]; at++)
+        if (length >= strlen(marks[at]) && memcmp(text, marks[at], strlen(marks[at])) == 0)
+            return cannot(name, "begins with a byte order mark; a script is plain text without one");
+    if (memchr(text, 0, length) != NULL)
+        return cannot(name, "holds a zero byte; a script is plain text");
     return ACCEPTED;
+}
+
+/* Takes a line without its end; false after the last. One that is longer than any script is cut after so many bytes. */
+static bool take_line(FILE *from, char line[SCRIPT_MOST + 2], size_t *length)
+{
+    int byte;
+    *length = 0;
+    while ((byte = getc(from)) != EOF && byte != '\n' && *length <= SCRIPT_MOST)
+        line[(*length)++] = (char)byte;
+    bool there = byte != EOF || *length > 0;
+    if (*length > 0 && line[*length - 1] == '\r')
+        --*length;
+    line[*length] = 0;
+    return there;
+}
+
+static enum status run_lines(FILE *from, const char *name)
+{
+    static char line[SCRIPT_MOST + 2];
+    char place[PATH_ROOM + 16];
+    size_t length;
+    enum status status = ACCEPTED;
+    for (unsigned number = 1; status == ACCEPTED && !session.ended && take_line(from, line, &length); number++) {
+        snprintf(place, sizeof place, "%s:%u", name, number);
+        status = check_text(name, line, length, number == 1);
+        if (status == ACCEPTED)
+            status = length > SCRIPT_MOST ? misused("%s: the line is too long", place) : run_line(&session, place, line);
+    }
+    return status == ACCEPTED && ferror(from) ? cannot_errno(name, "cannot be read") : status;
 }
 
 static enum status from_script(FILE *from, const char *name)
 {
-    char line[256], place[300];
-    enum status status = ACCEPTED;
-    for (unsigned number = 1; status == ACCEPTED && !session.ended && fgets(line, sizeof line, from) != NULL; number++) {
-        snprintf(place, sizeof place, "%s:%u", name, number);
-        bool whole = strchr(line, '\n') != NULL || feof(from);
-        status = whole ? run_line(&session, place, line) : misused("%s: the line is too long", place);
-    }
-    if (status == ACCEPTED && ferror(from))
-        return cannot_errno(name, "cannot be read");
-    if (status == ACCEPTED && session.unsaved && !session.ended)
-        return misused("%s: ends without 'save' after its last correction: nothing of it is kept", name);
-    return status;
+    enum status status = run_lines(from, name);
+    unsigned count = session.unsaved;
+    if (count == 0 || (status == ACCEPTED && session.ended))
+        return status;
+    warn(name, "%s%u correction%s since the last save %s dropped", status == ACCEPTED ? "ends without 'save': " : "", count,
+         count == 1 ? "" : "s", count == 1 ? "is" : "are");
+    return status == ACCEPTED ? USAGE : status;
 }
 
 static enum status from_file(const char *script)
 {
-    FILE *from = fopen(script, "r");
+    static uint8_t text[SCRIPT_MOST + 1];
+    size_t length;
+    enum status status = read_bounded(script, text, SCRIPT_MOST, &length);
+    if (status == ACCEPTED)
+        status = check_text(script, (const char *)text, length, true);
+    if (status != ACCEPTED || length == 0)
+        return status;
+    FILE *from = fmemopen(text, length, "r");
     if (from == NULL)
-        return cannot_errno(script, "cannot be opened");
-    enum status status = from_script(from, script);
+        return cannot_errno(script, "cannot be read");
+    status = from_script(from, script);
     fclose(from);
     return status;
 }
 
-/* The name of the log that is kept beside a file. */
-static char *beside(const char *file)
+enum status edit(const struct edit_words *words)
 {
-    size_t length = strlen(file) + sizeof ".snaplog";
-    char *name = malloc(length);
-    if (name != NULL)
-        snprintf(name, length, "%s.snaplog", file);
-    return name;
-}
-
-static enum status begin(const char *file, const char *log)
-{
-    enum status status = open_snapshot(file, &session.opened);
-    if (status != ACCEPTED)
-        return status;
-    char *input = log != NULL ? strdup(log) : beside(file);
-    session.log_output = log != NULL ? strdup(log) : beside(session.output);
-    if (input == NULL || session.log_output == NULL)
-        status = cannot(file, "there is no memory");
-    else
-        status = load_log(input, &session.opened, log != NULL, &session.log);
-    if (status == ACCEPTED)
-        status = check_log_place(session.log_output);
-    free(input);
-    return status;
-}
-
-enum status edit(const char *file, const char *output, const char *script, const char *log)
-{
-    session.file = file;
-    session.output = output;
-    enum status status = begin(file, log);
-    if (status == ACCEPTED && script != NULL)
-        status = from_file(script);
+    enum status status = begin_session(&session, words);
+    if (status == ACCEPTED && words->script != NULL && !is_stream(words->script))
+        status = from_file(words->script);
+    else if (status == ACCEPTED && words->script == NULL && isatty(STDIN_FILENO))
+        status = from_prompt(&session);
     else if (status == ACCEPTED)
-        status = isatty(STDIN_FILENO) ? from_prompt() : from_script(stdin, "standard input");
-    free(session.log_output);
+        status = from_script(stdin, "standard input");
+    forget(session.known);
     return status;
 }

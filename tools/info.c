@@ -1,4 +1,4 @@
-/* info.c: a machine as a person reads it. */
+/* info.c: a machine, and a file, as a person reads them. */
 #include "tool.h"
 
 unsigned bytes_not_zero(const struct opened *opened, unsigned page)
@@ -34,19 +34,36 @@ static void print_ports(FILE *to, const struct machine *m)
     if (!m->is_128k)
         return;
     uint8_t out = m->out_7ffd;
-    fprintf(to, "Paging     last OUT to 7FFD %02X: page %u at C000, screen in page %u, ROM %u, %s\n", out, out % 8u,
-            out & 8 ? 7 : 5, out >> 4 & 1u, out & 32 ? "locked" : "not locked");
-    fprintf(to, "Sound      last OUT to FFFD %02X; registers", m->out_fffd);
+    fprintf(to, "Paging     last OUT to 7FFD %02X, %s\n", out, out & SNAP_7FFD_LOCK ? "locked" : "not locked");
+    fprintf(to, "           page %u at C000, screen in page %d, ROM %d\n", out & SNAP_7FFD_PAGE,
+            out & SNAP_7FFD_SCREEN ? 7 : 5, out & SNAP_7FFD_ROM ? 1 : 0);
+    fprintf(to, "Sound      last OUT to FFFD %02X\n           registers", m->out_fffd);
     print_hex(to, m->sound, sizeof m->sound);
 }
 
 static void print_settings(FILE *to, const struct machine *m)
 {
     fprintf(to, "Clock      T state %u of %u in the frame\n", (unsigned)m->position, (unsigned)m->frame);
-    fprintf(to, "Settings   issue %d keyboard, %s video, joystick %s%s\n", m->issue_2 ? 2 : 3, m->video,
-            joystick_names[m->joystick], m->double_interrupts ? ", double interrupts" : "");
-    fprintf(to, "Emulation  byte 36 %02X, byte 37 %02X; bytes 59, 61 to 85", m->byte_36, m->byte_37);
-    print_hex(to, m->side, sizeof m->side);
+    fprintf(to, "Settings   issue %d keyboard, %s video%s\n", m->issue_2 ? 2 : 3, m->video,
+            m->double_interrupts ? ", double interrupts" : "");
+    fprintf(to, "           joystick %s\n", joystick_names[m->joystick]);
+    fprintf(to, "Emulation  byte 36 %02X, byte 37 %02X, byte 59 %02X\n", m->byte_36, m->byte_37, m->side[0]);
+    fputs("           bytes 61 to 73", to);
+    print_hex(to, m->side + 1, 13);
+    fputs("           bytes 74 to 85", to);
+    print_hex(to, m->side + 14, 12);
+}
+
+/* Where a page is seen, as wide as the widest of the machine. */
+static void print_page_places(FILE *to, const struct machine *m, unsigned page)
+{
+    char text[32] = "not paged in";
+    unsigned places[2], count = page_places(m, page, places), paged_twice[2];
+    int length = 0;
+    for (unsigned at = 0; at < count; at++)
+        length += snprintf(text + length, sizeof text - (size_t)length, "%s%04X-%04X", at == 0 ? "at " : " and ", places[at],
+                           places[at] + SNAP_PAGE_SIZE - 1);
+    fprintf(to, "%-*s", page_places(m, m->seen[3], paged_twice) == 2 ? 26 : 12, text);
 }
 
 static void print_pages(FILE *to, const struct machine *m, const struct opened *opened)
@@ -55,24 +72,32 @@ static void print_pages(FILE *to, const struct machine *m, const struct opened *
     for (unsigned page = 0; page < 8; page++) {
         if (!owns_page(m, page))
             continue;
-        unsigned address = page_address(m, page);
         fprintf(to, "%s%u  ", head, page);
-        if (address != 0)
-            fprintf(to, "at %04X-%04X", address, address + SNAP_PAGE_SIZE - 1);
-        else
-            fputs("not paged in", to);
+        print_page_places(to, m, page);
         fprintf(to, "  %5u bytes not zero\n", bytes_not_zero(opened, page));
         head = "           ";
     }
 }
 
-void print_info(FILE *to, const char *file, const struct opened *opened)
+static void print_machine(FILE *to, const struct opened *opened, const char *note)
 {
     struct machine m = machine_of(opened->header);
-    fprintf(to, "File       %s\n", file);
-    fprintf(to, "Machine    %s, attachment: %s\n", m.is_128k ? "128K" : "48K", m.attachment);
+    fprintf(to, "Machine    %s%s, attachment: %s\n", m.is_128k ? "128K" : "48K", note, m.attachment);
     print_registers(to, &m);
     print_ports(to, &m);
     print_settings(to, &m);
     print_pages(to, &m, opened);
+}
+
+void print_info(FILE *to, const char *file, const struct opened *opened)
+{
+    fprintf(to, "File       %s\n", shown(file));
+    print_machine(to, opened, "");
+}
+
+void print_file_info(FILE *to, const char *file, const struct opened *opened)
+{
+    fprintf(to, "File       %s\n", shown(file));
+    fprintf(to, "Format     version %u, %u bytes\n", opened->version, (unsigned)opened->length);
+    print_machine(to, opened, opened->says_16k ? " (the file says 16K)" : "");
 }

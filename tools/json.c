@@ -1,32 +1,12 @@
-/* json.c: a machine as JSON, numbers in decimal. */
+/* json.c: a file, or why it is not accepted, as JSON; numbers in decimal. */
 #include "tool.h"
-
-/* How many bytes of a name at `s` make one well-formed UTF-8 character; 0 if they make none. */
-static unsigned utf8_length(const unsigned char *s)
-{
-    unsigned more, least = s[0];
-    if (least < 0x80)
-        return 1;
-    if (least < 0xC2 || least > 0xF4)
-        return 0;
-    more = least < 0xE0 ? 1 : least < 0xF0 ? 2 : 3;
-    /* no overlong forms, no surrogates, nothing above 10FFFF */
-    if ((least == 0xE0 && s[1] < 0xA0) || (least == 0xED && s[1] > 0x9F))
-        return 0;
-    if ((least == 0xF0 && s[1] < 0x90) || (least == 0xF4 && s[1] > 0x8F))
-        return 0;
-    for (unsigned at = 1; at <= more; at++)
-        if ((s[at] & 0xC0) != 0x80)
-            return 0;
-    return more + 1;
-}
 
 static void print_string(FILE *to, const char *string)
 {
     const unsigned char *s = (const unsigned char *)string;
     fputc('"', to);
     while (*s != 0) {
-        unsigned length = utf8_length(s);
+        unsigned length = character_length(s);
         if (length == 0)
             fputs("\\ufffd", to);
         else if (*s == '"' || *s == '\\')
@@ -82,13 +62,11 @@ static void print_json_pages(FILE *to, const struct machine *m, const struct ope
     for (unsigned page = 0; page < 8; page++) {
         if (!owns_page(m, page))
             continue;
-        unsigned address = page_address(m, page);
-        fprintf(to, "%s\n    {\"page\": %u, \"address\": ", before, page);
-        if (address != 0)
-            fprintf(to, "%u", address);
-        else
-            fputs("null", to);
-        fprintf(to, ", \"not_zero\": %u}", bytes_not_zero(opened, page));
+        unsigned places[2], count = page_places(m, page, places);
+        fprintf(to, "%s\n    {\"page\": %u, \"addresses\": [", before, page);
+        for (unsigned at = 0; at < count; at++)
+            fprintf(to, "%s%u", at == 0 ? "" : ", ", places[at]);
+        fprintf(to, "], \"not_zero\": %u}", bytes_not_zero(opened, page));
         before = ",";
     }
     fputs("\n  ]\n", to);
@@ -99,7 +77,10 @@ void print_json(FILE *to, const char *file, const struct opened *opened)
     struct machine m = machine_of(opened->header);
     fputs("{\n  \"file\": ", to);
     print_string(to, file);
-    fprintf(to, ",\n  \"machine\": \"%s\",\n  \"attachment\": \"%s\",\n", m.is_128k ? "128K" : "48K", m.attachment);
+    fprintf(to, ",\n  \"version\": %u,\n  \"length\": %u,\n", opened->version, (unsigned)opened->length);
+    const char *kind = m.is_128k ? "128K" : "48K";
+    fprintf(to, "  \"machine\": \"%s\",\n  \"hardware\": \"%s\",\n", kind, opened->says_16k ? "16K" : kind);
+    fprintf(to, "  \"attachment\": \"%s\",\n", m.attachment);
     fputs("  \"registers\": {", to);
     for (unsigned pair = 0; pair < SNAP_PAIRS; pair++)
         fprintf(to, "\"%s\": %u, ", pair_names[pair], m.pairs[pair]);
@@ -109,5 +90,27 @@ void print_json(FILE *to, const char *file, const struct opened *opened)
     print_json_ports(to, &m);
     print_json_settings(to, &m);
     print_json_pages(to, &m, opened);
+    fputs("}\n", to);
+}
+
+void print_json_refusal(FILE *to, const char *file, uint32_t number, const char *hint)
+{
+    fprintf(to, "{\"refused\": %u, \"sentence\": ", (unsigned)number);
+    print_string(to, snap_sentence(number));
+    if (hint[0] != 0) {
+        fputs(", \"hint\": ", to);
+        print_string(to, hint);
+    }
+    fputs(", \"file\": ", to);
+    print_string(to, file);
+    fputs("}\n", to);
+}
+
+void print_json_error(FILE *to, const char *file, const char *sentence)
+{
+    fputs("{\"error\": ", to);
+    print_string(to, sentence);
+    fputs(", \"file\": ", to);
+    print_string(to, file);
     fputs("}\n", to);
 }

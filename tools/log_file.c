@@ -7,7 +7,9 @@
 #include "tool.h"
 
 static const uint8_t mark[8] = "SNAPLOG1";
-#define HEAD 24u
+#define HEAD (LOG_FILE_MOST - SNAP_LOG_MOST)
+/* The longest name of a file in a folder. */
+#define NAME_MOST 255
 
 static void put_u32(uint8_t *to, uint32_t value)
 {
@@ -33,9 +35,9 @@ static uint32_t log_sum(const uint8_t *file, size_t length)
     return (uint32_t)crc32(sum, file + HEAD, (uInt)(length - HEAD));
 }
 
-static bool is_log(const uint8_t *file, size_t length)
+bool is_log(const uint8_t *file, size_t length)
 {
-    return length >= HEAD && memcmp(file, mark, sizeof mark) == 0;
+    return length >= HEAD && length <= LOG_FILE_MOST && memcmp(file, mark, sizeof mark) == 0;
 }
 
 static bool is_whole(const uint8_t *file, size_t length)
@@ -51,37 +53,21 @@ static bool exists(const char *path)
     return stat(path, &about) == 0;
 }
 
-/* Reads what stands at a log's place, if anything; anything but a log is refused. */
-static enum status read_log(const char *path, uint8_t file[HEAD + SNAP_LOG_MOST + 1], size_t *length)
-{
-    *length = 0;
-    if (!exists(path))
-        return ACCEPTED;
-    enum status status = read_bounded(path, file, HEAD + SNAP_LOG_MOST, length);
-    if (status == ACCEPTED && !is_log(file, *length))
-        status = cannot(path, "is not a correction log");
-    return status;
-}
-
-static uint8_t kept[HEAD + SNAP_LOG_MOST + 1];
-
-enum status check_log_place(const char *path)
-{
-    size_t length;
-    return read_log(path, kept, &length);
-}
-
 enum status load_log(const char *path, const struct opened *opened, bool strict, struct log *log)
 {
+    static uint8_t kept[LOG_FILE_MOST + 1];
     size_t length;
-    snap_log_start(log->steps, sizeof log->steps, &log->standing, &log->total);
-    enum status status = read_log(path, kept, &length);
-    if (status != ACCEPTED || length == 0)
+    if (!exists(path))
+        return ACCEPTED;
+    enum status status = read_bounded(path, kept, LOG_FILE_MOST, &length);
+    if (status != ACCEPTED)
         return status;
+    if (!is_log(kept, length))
+        return cannot(path, "is not a correction log");
     if (!is_whole(kept, length) || take_u32(kept + 16) != machine_sum(opened)) {
         if (strict)
             return refused(path, SNAP_STEP_DAMAGED);
-        fprintf(stderr, "snapshot: %s: belongs to something else; a new log is started\n", path);
+        warn(path, "belongs to something else; a new log is started");
         return ACCEPTED;
     }
     log->standing = take_u32(kept + 8);
@@ -90,34 +76,45 @@ enum status load_log(const char *path, const struct opened *opened, bool strict,
     return ACCEPTED;
 }
 
-enum status save_log(const char *path, const struct opened *opened, const struct log *log)
+size_t log_bytes(const struct opened *opened, const struct log *log, uint8_t file[LOG_FILE_MOST])
 {
-    enum status status = check_log_place(path);
-    if (status != ACCEPTED)
-        return status;
     size_t length = HEAD + (size_t)log->total * SNAP_LOG_STEP;
-    memcpy(kept, mark, sizeof mark);
-    put_u32(kept + 8, (uint32_t)log->standing);
-    put_u32(kept + 12, (uint32_t)log->total);
-    put_u32(kept + 16, machine_sum(opened));
-    memcpy(kept + HEAD, log->steps, length - HEAD);
-    put_u32(kept + 20, log_sum(kept, length));
-    return save_bytes(path, kept, length);
+    memcpy(file, mark, sizeof mark);
+    put_u32(file + 8, (uint32_t)log->standing);
+    put_u32(file + 12, (uint32_t)log->total);
+    put_u32(file + 16, machine_sum(opened));
+    memcpy(file + HEAD, log->steps, length - HEAD);
+    put_u32(file + 20, log_sum(file, length));
+    return length;
+}
+
+/* A name that leaves no room for the ending is cut between characters, and its sum tells it from others. */
+enum status log_beside(const char *file, char name[PATH_ROOM])
+{
+    static const char ending[] = ".snaplog";
+    const char *slash = strrchr(file, '/'), *last = slash == NULL ? file : slash + 1;
+    size_t length = strlen(file), most = (size_t)(last - file) + NAME_MOST - strlen(ending);
+    char sum[10] = "";
+    if (length > most) {
+        snprintf(sum, sizeof sum, "-%08X", (unsigned)crc32(0, (const uint8_t *)last, (uInt)strlen(last)));
+        length = most - strlen(sum);
+        while (file + length > last && ((unsigned char)file[length] & 0xC0) == 0x80)
+            length--;
+    }
+    if (snprintf(name, PATH_ROOM, "%.*s%s%s", (int)length, file, sum, ending) >= PATH_ROOM)
+        return cannot(file, "the name is too long");
+    return ACCEPTED;
 }
 
 void print_step(FILE *to, const struct log *log, uint64_t step, bool back)
 {
     const uint8_t *bytes = log->steps + step * SNAP_LOG_STEP;
-    unsigned index = bytes[3], offset = bytes[4] | (unsigned)bytes[5] << 8;
-    unsigned before = bytes[6] | (unsigned)bytes[7] << 8, after = bytes[8] | (unsigned)bytes[9] << 8;
-    if (back) {
-        unsigned put_back = before;
-        before = after;
-        after = put_back;
-    }
-    switch (bytes[0]) {
-    case 1: fprintf(to, "byte in page %u at offset %04X: %02X -> %02X\n", index, offset, before, after); break;
-    case 2: fprintf(to, "pair %s: %04X -> %04X\n", index < SNAP_PAIRS ? pair_names[index] : "?", before, after); break;
+    unsigned index = bytes[SNAP_STEP_INDEX], offset = word_at(bytes, SNAP_STEP_OFFSET);
+    unsigned before = word_at(bytes, back ? SNAP_STEP_NEW : SNAP_STEP_OLD);
+    unsigned after = word_at(bytes, back ? SNAP_STEP_OLD : SNAP_STEP_NEW);
+    switch (bytes[SNAP_STEP_TAG]) {
+    case SNAP_STEP_BYTE: fprintf(to, "byte in page %u at offset %04X: %02X -> %02X\n", index, offset, before, after); break;
+    case SNAP_STEP_PAIR: fprintf(to, "pair %s: %04X -> %04X\n", index < SNAP_PAIRS ? pair_names[index] : "?", before, after); break;
     default: fprintf(to, "OUT to 7FFD: %02X -> %02X\n", before, after);
     }
 }

@@ -3,75 +3,91 @@
 
 #include "tool.h"
 
+#define RAM_PAGES (SNAP_AREA_SIZE / SNAP_PAGE_SIZE)
+#define ROM_PAGE 8
+
 const char *const pair_names[SNAP_PAIRS] = {"AF", "BC", "DE", "HL", "AF'", "BC'", "DE'", "HL'", "IX", "IY", "SP", "PC"};
 const char *const colour_names[8] = {"black", "blue", "red", "magenta", "green", "cyan", "yellow", "white"};
 const char *const joystick_names[4] = {"Cursor", "Kempston", "Sinclair left or user defined", "Sinclair right"};
 
-/* Where each pair stands in the header; A stands before F. */
-static const uint8_t pair_places[SNAP_PAIRS] = {0, 2, 13, 4, 21, 15, 17, 19, 25, 23, 8, 32};
-
-static uint16_t word_at(const uint8_t *bytes, unsigned place)
+uint16_t word_at(const uint8_t *bytes, unsigned place)
 {
     return (uint16_t)(bytes[place] | bytes[place + 1] << 8);
 }
 
-static uint16_t pair_of(const uint8_t *header, unsigned pair)
+/* The number in the bits of a mask. */
+static uint8_t field(uint8_t byte, unsigned mask)
 {
-    uint16_t word = word_at(header, pair_places[pair]);
-    bool high_first = pair == SNAP_AF || pair == SNAP_AF_ALT;
-    return high_first ? (uint16_t)(word << 8 | word >> 8) : word;
+    unsigned lowest = mask & (~mask + 1);
+    return (uint8_t)((byte & mask) / lowest);
+}
+
+static const char *video_of(const uint8_t *header)
+{
+    const char *const names[] = {"normal", "high", "normal", "low"};
+    return names[field(header[SNAP_AT_SETTINGS], SNAP_SETTINGS_VIDEO)];
 }
 
 static uint32_t position_of(const uint8_t *header, uint32_t quarter)
 {
-    uint32_t low = word_at(header, 55), high = header[57];
+    uint32_t low = word_at(header, SNAP_AT_LOW_COUNTER), high = header[SNAP_AT_HIGH_COUNTER];
     return (high + 1) % 4 * quarter + (quarter - 1 - low);
+}
+
+/* The side bytes are 59, and from 61 on to the end. */
+static void take_side_bytes(struct machine *m, const uint8_t *header)
+{
+    m->side[0] = header[SNAP_AT_MGT_ROM];
+    memcpy(m->side + 1, header + SNAP_AT_ROM_LOW, SNAP_HEADER_SIZE - SNAP_AT_ROM_LOW);
+}
+
+/* What the library tells of a machine; a header that it made is never refused. */
+static void ask_library(struct machine *m, const uint8_t *header)
+{
+    const char *const attachments[] = {[SNAP_NO_ATTACHMENT] = "none", [SNAP_INTERFACE_1] = "Interface I", [SNAP_MGT] = "M.G.T."};
+    uint8_t model, attachment, in_rom;
+    uint16_t offset;
+    snap_model(header, SNAP_HEADER_SIZE, &model, &attachment);
+    m->is_128k = model == SNAP_128K;
+    m->attachment = attachments[attachment];
+    for (uint8_t pair = 0; pair < SNAP_PAIRS; pair++)
+        snap_pair(header, SNAP_HEADER_SIZE, pair, &m->pairs[pair]);
+    for (unsigned quarter = 0; quarter < 4; quarter++)
+        snap_place(header, SNAP_HEADER_SIZE, (uint16_t)(quarter * SNAP_PAGE_SIZE), &in_rom, &m->seen[quarter], &offset);
+    m->seen[0] = header[SNAP_AT_OUT_7FFD] & SNAP_7FFD_ROM ? ROM_PAGE + 1 : ROM_PAGE;
 }
 
 struct machine machine_of(const uint8_t header[SNAP_HEADER_SIZE])
 {
-    static const char *const attachments[] = {"none", "Interface I", "", "M.G.T.", "none", "Interface I", "M.G.T."};
-    static const char *const videos[4] = {"normal", "high", "normal", "low"};
     struct machine m;
-    uint8_t mode = header[34], flags = header[12], more = header[29];
-    m.is_128k = mode >= 4;
-    m.attachment = attachments[mode % 7];
-    for (unsigned pair = 0; pair < SNAP_PAIRS; pair++)
-        m.pairs[pair] = pair_of(header, pair);
-    m.i = header[10];
-    m.r = (uint8_t)((header[11] & 127) | (flags & 1) << 7);
-    m.border = flags >> 1 & 7;
-    m.iff1 = header[27] != 0;
-    m.iff2 = header[28] != 0;
-    m.interrupt_mode = more & 3;
-    m.issue_2 = (more & 4) != 0;
-    m.double_interrupts = (more & 8) != 0;
-    m.video = videos[more >> 4 & 3];
-    m.joystick = more >> 6;
-    m.out_7ffd = header[35];
-    m.byte_36 = header[36];
-    m.byte_37 = header[37];
-    m.out_fffd = header[38];
-    memcpy(m.sound, header + 39, sizeof m.sound);
-    m.side[0] = header[59];
-    memcpy(m.side + 1, header + 61, 25);
-    uint32_t quarter = m.is_128k ? 17727 : 17472;
+    uint8_t flags = header[SNAP_AT_FLAGS], settings = header[SNAP_AT_SETTINGS];
+    ask_library(&m, header);
+    m.i = header[SNAP_AT_I];
+    m.r = (uint8_t)(header[SNAP_AT_R] | field(flags, SNAP_FLAGS_R7) << 7);
+    m.border = field(flags, SNAP_FLAGS_BORDER);
+    m.iff1 = header[SNAP_AT_IFF1] != 0;
+    m.iff2 = header[SNAP_AT_IFF2] != 0;
+    m.interrupt_mode = field(settings, SNAP_SETTINGS_INTERRUPT_MODE);
+    m.issue_2 = field(settings, SNAP_SETTINGS_ISSUE_2);
+    m.double_interrupts = field(settings, SNAP_SETTINGS_DOUBLE_INTERRUPTS);
+    m.video = video_of(header);
+    m.joystick = field(settings, SNAP_SETTINGS_JOYSTICK);
+    m.out_7ffd = header[SNAP_AT_OUT_7FFD];
+    m.byte_36 = header[SNAP_AT_INTERFACE_1_ROM];
+    m.byte_37 = header[SNAP_AT_EMULATION];
+    m.out_fffd = header[SNAP_AT_OUT_FFFD];
+    memcpy(m.sound, header + SNAP_AT_SOUND, sizeof m.sound);
+    take_side_bytes(&m, header);
+    uint32_t quarter = m.is_128k ? SNAP_QUARTER_128K : SNAP_QUARTER_48K;
     m.frame = 4 * quarter;
     m.position = position_of(header, quarter);
     return m;
 }
 
+/* A 48K sees all the pages that it owns. */
 bool owns_page(const struct machine *machine, unsigned page)
 {
-    return machine->is_128k ? page < 8 : page == 0 || page == 2 || page == 5;
-}
-
-unsigned page_address(const struct machine *machine, unsigned page)
-{
-    unsigned paged = machine->is_128k ? machine->out_7ffd % 8u : 0;
-    if (page == 5)
-        return 0x4000;
-    if (page == 2)
-        return 0x8000;
-    return page == paged ? 0xC000 : 0;
+    if (machine->is_128k)
+        return page < RAM_PAGES;
+    return page == machine->seen[1] || page == machine->seen[2] || page == machine->seen[3];
 }

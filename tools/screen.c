@@ -1,4 +1,5 @@
-/* screen.c: the picture on the saved screen with its border, as a PNG of 320 by 240. FLASH is shown in its first phase. */
+/* screen.c: the picture on a page of screen memory with its border, as a PNG of 320 by 240 pixels. FLASH is shown in its
+ * first phase. */
 #include <png.h>
 #include <stdlib.h>
 #include <string.h>
@@ -34,28 +35,29 @@ static uint8_t colour_at(const uint8_t *screen, unsigned x, unsigned y)
     return attribute & 0x40 ? colour | 8 : colour;
 }
 
-static void draw(uint8_t *pixels, const uint8_t *screen, uint8_t border)
+/* The colour of a pixel of the whole picture. */
+static uint8_t full_colour_at(const uint8_t *screen, uint8_t border, unsigned x, unsigned y)
 {
-    memset(pixels, border, FULL_WIDTH * FULL_HEIGHT);
-    for (unsigned y = 0; y < HEIGHT; y++)
-        for (unsigned x = 0; x < WIDTH; x++)
-            pixels[(TOP + y) * FULL_WIDTH + SIDE + x] = colour_at(screen, x, y);
+    bool inside = x >= SIDE && x < SIDE + WIDTH && y >= TOP && y < TOP + HEIGHT;
+    return inside ? colour_at(screen, x - SIDE, y - TOP) : border;
 }
 
-enum status save_screen(const char *path, const struct opened *opened)
+static void draw(uint8_t *dots, const uint8_t *screen, uint8_t border, unsigned scale)
 {
-    static uint8_t pixels[FULL_WIDTH * FULL_HEIGHT];
-    uint8_t palette[16][3];
-    struct machine m = machine_of(opened->header);
-    unsigned page = m.out_7ffd & 8 ? 7 : 5;
-    draw(pixels, opened->area + page * SNAP_PAGE_SIZE, m.border);
-    make_palette(palette);
+    for (unsigned y = 0; y < FULL_HEIGHT * scale; y++)
+        for (unsigned x = 0; x < FULL_WIDTH * scale; x++)
+            *dots++ = full_colour_at(screen, border, x / scale, y / scale);
+}
 
+static enum status save_png(const char *path, bool force, const uint8_t *dots, unsigned scale)
+{
+    uint8_t palette[16][3];
+    make_palette(palette);
     png_image image;
     memset(&image, 0, sizeof image);
     image.version = PNG_IMAGE_VERSION;
-    image.width = FULL_WIDTH;
-    image.height = FULL_HEIGHT;
+    image.width = FULL_WIDTH * scale;
+    image.height = FULL_HEIGHT * scale;
     image.format = PNG_FORMAT_RGB_COLORMAP;
     image.colormap_entries = 16;
     png_alloc_size_t length = PNG_IMAGE_PNG_SIZE_MAX(image);
@@ -63,10 +65,23 @@ enum status save_screen(const char *path, const struct opened *opened)
     if (file == NULL)
         return cannot(path, "there is no memory for the picture");
     enum status status;
-    if (png_image_write_to_memory(&image, file, &length, 0, pixels, FULL_WIDTH, palette) == 0)
+    if (png_image_write_to_memory(&image, file, &length, 0, dots, (png_int_32)image.width, palette) == 0)
         status = cannot(path, image.message);
     else
-        status = save_bytes(path, file, length);
+        status = output_bytes(path, PICTURE_FILE, force, file, length);
     free(file);
+    return status;
+}
+
+enum status save_screen(const char *path, bool force, const uint8_t *page, uint8_t border, unsigned scale)
+{
+    if (scale == 0)
+        return output_bytes(path, SCREEN_FILE, force, page, SCREEN_SIZE);
+    uint8_t *dots = malloc((size_t)FULL_WIDTH * FULL_HEIGHT * scale * scale);
+    if (dots == NULL)
+        return cannot(path, "there is no memory for the picture");
+    draw(dots, page, border, scale);
+    enum status status = save_png(path, force, dots, scale);
+    free(dots);
     return status;
 }

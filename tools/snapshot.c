@@ -1,114 +1,163 @@
-/* snapshot.c: the curator's tool. It takes the words of the command line apart; the library does the work. */
+/* snapshot.c: the curator's tool: its commands and their options. The library does the work. */
 #define _POSIX_C_SOURCE 200809L
-#include <errno.h>
-#include <getopt.h>
 #include <signal.h>
-#include <stdlib.h>
 #include <string.h>
 
 #include "tool.h"
-
-static const char usage_text[] =
-    "snapshot info FILE [--json]                     the machine\n"
-    "snapshot view FILE PAGE [--rom FILE]            a page as hex and text: 0 to 7 RAM, 8 and 9 ROM\n"
-    "snapshot screen FILE OUT.png                    the picture on the saved screen\n"
-    "snapshot edit FILE -o OUT [--script FILE] [--log FILE]\n"
-    "                                                corrections, undo and redo, from a prompt or a script\n"
-    "snapshot write FILE -o OUT                      the same machine and memory as a version 3 file\n"
-    "snapshot --help, --version\n"
-    "Exit status: 0 accepted, 1 refused, 2 wrong use, 3 system error. See snapshot(1).\n";
-
-/* The words and options after a command. */
-struct words {
-    const char *names[2];
-    const char *output, *script, *log, *rom;
-    bool json;
-};
 
 static struct opened opened;
 
 static enum status run_info(const struct words *words)
 {
-    enum status status = open_snapshot(words->names[0], &opened);
+    const char *file = words->names[0];
+    bool json = words->options[OPTION_JSON] != NULL;
+    if (json)
+        tell_in_json();
+    enum status status = open_to_look(file, &opened);
     if (status == ACCEPTED)
-        (words->json ? print_json : print_info)(stdout, words->names[0], &opened);
+        (json ? print_json : print_file_info)(stdout, input_name(file), &opened);
     return status;
 }
 
 static enum status run_view(const struct words *words)
 {
-    char *end;
-    const char *text = words->names[1];
-    errno = 0;
-    unsigned long page = strtoul(text, &end, 10);
-    if (text[0] < '0' || text[0] > '9' || *end != 0)
-        return misused("PAGE is a number, not '%s'", text);
-    enum status status = open_snapshot(words->names[0], &opened);
-    return status == ACCEPTED ? print_page(stdout, words->names[0], &opened, page, words->rom) : status;
+    const char *file = words->names[0], *rom = words->options[OPTION_ROM];
+    bool raw = words->options[OPTION_RAW] != NULL;
+    struct part part;
+    if (!take_part(words->names[1], &part))
+        return misused("'%s' is neither a page, as in 5, nor a range of addresses, as in 4000..57FF", words->names[1]);
+    enum status status = raw ? check_output("-") : ACCEPTED;
+    if (status == ACCEPTED)
+        status = open_to_look(file, &opened);
+    if (status != ACCEPTED)
+        return status;
+    file = input_name(file);
+    return raw ? put_part(file, &opened, &part, rom) : print_part(stdout, file, file, &opened, &part, rom);
+}
+
+static enum status run_find(const struct words *words)
+{
+    struct sought sought;
+    enum status status = take_sought(words->names[1], words->options[OPTION_TEXT] != NULL,
+                                     words->options[OPTION_HEX] != NULL, &sought);
+    if (status == ACCEPTED)
+        status = open_to_look(words->names[0], &opened);
+    if (status == ACCEPTED)
+        print_places(stdout, &opened, &sought);
+    return status;
+}
+
+/* An option's value that is one of some digits. */
+static enum status take_digit(const struct words *words, enum option_number option, const char *digits, unsigned *digit)
+{
+    const char *value = words->options[option];
+    if (value == NULL)
+        return ACCEPTED;
+    if (strlen(value) != 1 || strchr(digits, value[0]) == NULL)
+        return misused("'%s' takes %s, not '%s'", option_table[option].flag, option_table[option].value, value);
+    *digit = (unsigned)(value[0] - '0');
+    return ACCEPTED;
 }
 
 static enum status run_screen(const struct words *words)
 {
-    enum status status = open_snapshot(words->names[0], &opened);
-    return status == ACCEPTED ? save_screen(words->names[1], &opened) : status;
+    const char *file = words->names[0], *output = words->names[1];
+    bool scr = words->options[OPTION_SCR] != NULL, force = words->options[OPTION_FORCE] != NULL;
+    unsigned scale = scr ? 0 : 1, page = 0;
+    const uint8_t *bytes;
+    if (scr && words->options[OPTION_SCALE] != NULL)
+        return misused("'--scr' and '--scale' cannot both be asked for");
+    if (!force && !is_stream(file) && !is_stream(output) && same_file(file, output))
+        return misused("%s: is the snapshot itself; only --force puts the picture there", output);
+    enum status status = take_digit(words, OPTION_SCALE, "12345678", &scale);
+    if (status == ACCEPTED)
+        status = take_digit(words, OPTION_PAGE, "57", &page);
+    if (status == ACCEPTED)
+        status = check_output(output);
+    if (status == ACCEPTED)
+        status = open_to_look(file, &opened);
+    if (status != ACCEPTED)
+        return status;
+    struct machine m = machine_of(opened.header);
+    if (page == 0)
+        page = m.out_7ffd & SNAP_7FFD_SCREEN ? 7 : 5;
+    status = page_bytes(input_name(file), &opened, page, NULL, &bytes);
+    return status == ACCEPTED ? save_screen(output, force, bytes, m.border, scale) : status;
 }
 
 static enum status run_edit(const struct words *words)
 {
-    return edit(words->names[0], words->output, words->script, words->log);
+    const char *file = words->names[0], *output = words->options[OPTION_OUTPUT], *log = words->options[OPTION_LOG];
+    if (is_stream(file) || is_stream(output) || (log != NULL && is_stream(log)))
+        return misused("'snapshot edit' takes files, not '-'; a file of that name is './-'");
+    return edit(&(struct edit_words){.file = file, .output = output, .script = words->options[OPTION_SCRIPT],
+                                     .log = log, .force = words->options[OPTION_FORCE] != NULL,
+                                     .new_log = words->options[OPTION_NEW_LOG] != NULL});
 }
 
 static enum status run_write(const struct words *words)
 {
-    enum status status = open_snapshot(words->names[0], &opened);
-    return status == ACCEPTED ? save_snapshot(words->output, &opened) : status;
+    const char *output = words->options[OPTION_OUTPUT];
+    enum status status = check_output(output);
+    if (status == ACCEPTED)
+        status = open_snapshot(words->names[0], &opened);
+    return status == ACCEPTED ? output_snapshot(output, &opened, words->options[OPTION_FORCE] != NULL) : status;
 }
 
-/* Each command with its form: how many names it takes, and the options it knows. */
-static const struct command {
-    const char *name;
-    int names;
-    const char *options;
-    enum status (*run)(const struct words *);
-} commands[] = {
-    {"info", 1, "j", run_info},
-    {"view", 2, "r", run_view},
-    {"screen", 2, "", run_screen},
-    {"edit", 1, "osl", run_edit},
-    {"write", 1, "o", run_write},
+const struct command command_table[] = {
+    {"info", {"FILE"}, {OPTION_JSON}, run_info, "the machine, and what the file says of itself"},
+    {"view", {"FILE", "PAGE|ADDRESS..ADDRESS"}, {OPTION_ROM, OPTION_RAW}, run_view,
+     "a page, 0 to 7 RAM, 8 and 9 ROM, or hexadecimal addresses, as hex and text"},
+    {"find", {"FILE", "TEXT|HEX"}, {OPTION_TEXT, OPTION_HEX}, run_find,
+     "every place of a text, or of bytes as an even number of hex digits"},
+    {"screen", {"FILE", "OUT"}, {OPTION_SCALE, OPTION_PAGE, OPTION_SCR, OPTION_FORCE}, run_screen,
+     "the picture on the saved screen, as a PNG"},
+    {"edit", {"FILE"}, {OPTION_OUTPUT, OPTION_SCRIPT, OPTION_LOG, OPTION_NEW_LOG, OPTION_FORCE}, run_edit,
+     "corrections, undo and redo, from a prompt or a script"},
+    {"write", {"FILE"}, {OPTION_OUTPUT, OPTION_FORCE}, run_write, "the same machine and memory as a version 3 file"},
+};
+const size_t command_count = sizeof command_table / sizeof command_table[0];
+
+const struct option_form option_table[OPTIONS] = {
+    [OPTION_JSON] = {"--json", NULL, "the same as JSON, numbers in decimal; a refusal too"},
+    [OPTION_ROM] = {"--rom", "ROM", "the ROM's file: 16,384 bytes for a 48K, 32,768 for a 128K"},
+    [OPTION_RAW] = {"--raw", NULL, "the bytes themselves"},
+    [OPTION_TEXT] = {"--text", NULL, "what is sought is text, whatever it looks like"},
+    [OPTION_HEX] = {"--hex", NULL, "what is sought is hex digits"},
+    [OPTION_SCALE] = {"--scale", "1..8", "so many dots of the PNG for the side of a pixel"},
+    [OPTION_PAGE] = {"--page", "5|7", "the page that the screen is in, whichever was shown"},
+    [OPTION_SCR] = {"--scr", NULL, "the 6,912 bytes of the screen, not a PNG"},
+    [OPTION_OUTPUT] = {"--output", "OUT", "the file that is written"},
+    [OPTION_SCRIPT] = {"--script", "SCRIPT", "a file of lines instead of the prompt"},
+    [OPTION_LOG] = {"--log", "LOG", "the file of the correction log"},
+    [OPTION_NEW_LOG] = {"--new-log", NULL, "begins with an empty log, whatever is kept"},
+    [OPTION_FORCE] = {"--force", NULL, "replaces what is of another kind, was changed, or may not be written"},
 };
 
-static const struct option options[] = {
-    {"output", required_argument, NULL, 'o'},
-    {"script", required_argument, NULL, 's'},
-    {"log", required_argument, NULL, 'l'},
-    {"rom", required_argument, NULL, 'r'},
-    {"json", no_argument, NULL, 'j'},
-    {NULL, 0, NULL, 0},
-};
-
-static enum status take_options(const struct command *command, int argc, char **argv, struct words *words)
+static void print_usage(FILE *to)
 {
-    int option;
-    opterr = 0;
-    while ((option = getopt_long(argc, argv, "o:", options, NULL)) != -1) {
-        if (option == '?' || strchr(command->options, option) == NULL)
-            return misused("'snapshot %s' does not take this; see 'snapshot --help'", command->name);
-        switch (option) {
-        case 'o': words->output = optarg; break;
-        case 's': words->script = optarg; break;
-        case 'l': words->log = optarg; break;
-        case 'r': words->rom = optarg; break;
-        default: words->json = true;
-        }
-    }
-    if (argc - optind != command->names)
-        return misused("'snapshot %s' takes %d name%s; see 'snapshot --help'", command->name, command->names,
-                       command->names == 1 ? "" : "s");
-    if (strchr(command->options, 'o') != NULL && words->output == NULL)
-        return misused("'snapshot %s' needs -o OUT", command->name);
-    for (int at = 0; at < command->names; at++)
-        words->names[at] = argv[optind + at];
+    for (size_t at = 0; at < command_count; at++)
+        print_form(to, &command_table[at]);
+    fputs("snapshot COMMAND --help, snapshot --help, snapshot --version\n"
+          "FILE may be -, standard input; OUT may be -, standard output; not in edit.\n"
+          "Exit status: 0 accepted, 1 refused, 2 wrong use, 3 system error.\n"
+          "See snapshot(1).\n", to);
+}
+
+static bool is_either(const char *word, const char *name, const char *letter)
+{
+    return strcmp(word, name) == 0 || strcmp(word, letter) == 0;
+}
+
+static enum status run_command(const struct command *command, int argc, char **argv)
+{
+    struct words words = {0};
+    enum status status = take_options(command, argc, argv, &words);
+    if (status != ACCEPTED)
+        return status;
+    if (!words.help)
+        return command->run(&words);
+    print_help(stdout, command);
     return ACCEPTED;
 }
 
@@ -116,21 +165,17 @@ static enum status run(int argc, char **argv)
 {
     if (argc < 2)
         return misused("a command is missing; see 'snapshot --help'");
-    if (strcmp(argv[1], "--help") == 0) {
-        fputs(usage_text, stdout);
+    if (is_either(argv[1], "--help", "-h")) {
+        print_usage(stdout);
         return ACCEPTED;
     }
-    if (strcmp(argv[1], "--version") == 0) {
+    if (is_either(argv[1], "--version", "-V")) {
         puts("snapshot " SNAPSHOT_VERSION);
         return ACCEPTED;
     }
-    for (size_t at = 0; at < sizeof commands / sizeof commands[0]; at++) {
-        struct words words = {0};
-        if (strcmp(argv[1], commands[at].name) != 0)
-            continue;
-        enum status status = take_options(&commands[at], argc - 1, argv + 1, &words);
-        return status == ACCEPTED ? commands[at].run(&words) : status;
-    }
+    for (size_t at = 0; at < command_count; at++)
+        if (strcmp(argv[1], command_table[at].name) == 0)
+            return run_command(&command_table[at], argc - 1, argv + 1);
     return misused("there is no command '%s'; see 'snapshot --help'", argv[1]);
 }
 

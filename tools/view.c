@@ -1,62 +1,124 @@
-/* view.c: a page as hex and text. */
+/* view.c: a page or a range of addresses as hex and text. */
 #include <string.h>
 
 #include "tool.h"
 
-#define COLUMNS 16u
+#define COLUMNS 16
 
-static void print_row(FILE *to, const uint8_t *page, unsigned offset)
+void print_columns(FILE *to, const struct span *span, long start)
 {
-    fprintf(to, "%04X ", offset);
-    for (unsigned column = 0; column < COLUMNS; column++)
-        fprintf(to, "%s%02X", column == COLUMNS / 2 ? "  " : " ", page[offset + column]);
-    fputs("  |", to);
-    for (unsigned column = 0; column < COLUMNS; column++) {
-        uint8_t byte = page[offset + column];
-        fputc(byte >= 32 && byte < 127 ? byte : '.', to);
+    char text[COLUMNS + 1] = "";
+    for (int column = 0; column < COLUMNS; column++) {
+        long place = start + column;
+        fputs(column == COLUMNS / 2 ? "  " : " ", to);
+        text[column] = ' ';
+        if (place < span->first || place > span->last) {
+            fputs("  ", to);
+            continue;
+        }
+        uint8_t byte = span->bytes[place - span->first];
+        fprintf(to, "%02X", byte);
+        text[column] = (char)(byte >= 32 && byte < 127 ? byte : '.');
     }
-    fputs("|\n", to);
+    fprintf(to, "  |%s|\n", text);
 }
 
-/* Rows that repeat the one before are shown as one star; the last row is always shown. */
-static void print_rows(FILE *to, const uint8_t *page)
+/* Whole rows that repeat the one before are shown as one star; the last row is always shown. */
+static void print_rows(FILE *to, const struct span *span)
 {
     bool star = false;
-    for (unsigned offset = 0; offset < SNAP_PAGE_SIZE; offset += COLUMNS) {
-        bool last = offset == SNAP_PAGE_SIZE - COLUMNS;
-        bool same = offset > 0 && !last && memcmp(page + offset, page + offset - COLUMNS, COLUMNS) == 0;
-        if (!same)
-            print_row(to, page, offset);
-        else if (!star)
+    for (long row = span->first / COLUMNS * COLUMNS; row <= span->last; row += COLUMNS) {
+        long before = row - COLUMNS - span->first;
+        bool whole = before >= 0 && row + COLUMNS <= span->last;
+        bool same = whole && memcmp(span->bytes + before, span->bytes + before + COLUMNS, COLUMNS) == 0;
+        if (!same) {
+            fprintf(to, "%04lX ", (unsigned long)row);
+            print_columns(to, span, row);
+        } else if (!star) {
             fputs("*\n", to);
+        }
         star = same;
     }
 }
 
-enum status print_page(FILE *to, const char *file, const struct opened *opened, unsigned long page, const char *rom_file)
+/* A page's bytes at its first address, or at offsets where it is not paged in. */
+static enum status span_of_page(const char *file, const struct opened *opened, const struct part *part, const char *rom,
+                                struct span *span)
 {
-    static uint8_t rom[SNAP_ROM_SIZE_128K + 1];
     struct machine m = machine_of(opened->header);
-    /* without a ROM, zeros stand in for it: they are never shown */
-    size_t rom_length = m.is_128k ? SNAP_ROM_SIZE_128K : SNAP_ROM_SIZE_48K;
-    if (rom_file != NULL) {
-        enum status status = read_bounded(rom_file, rom, SNAP_ROM_SIZE_128K, &rom_length);
+    unsigned places[2] = {0};
+    enum status status = page_bytes(file, opened, part->page, rom, &span->bytes);
+    if (status == ACCEPTED)
+        page_places(&m, (unsigned)part->page, places);
+    span->first = places[0];
+    span->last = span->first + (long)SNAP_PAGE_SIZE - 1;
+    return status;
+}
+
+/* A range's bytes, out of the pages that are seen there. */
+static enum status span_of_range(const char *file, const struct opened *opened, const struct part *part, const char *rom,
+                                 struct span *span)
+{
+    static uint8_t memory[4 * SNAP_PAGE_SIZE];
+    struct machine m = machine_of(opened->header);
+    unsigned long quarter = part->first / SNAP_PAGE_SIZE, last = part->last / SNAP_PAGE_SIZE;
+    for (; quarter <= last; quarter++) {
+        const uint8_t *bytes;
+        enum status status = page_bytes(file, opened, m.seen[quarter], rom, &bytes);
         if (status != ACCEPTED)
             return status;
+        memcpy(memory + quarter * SNAP_PAGE_SIZE, bytes, SNAP_PAGE_SIZE);
     }
-    uint8_t in_rom, number = (uint8_t)(page < 255 ? page : 255);
-    uint64_t start, length;
-    uint32_t answer = snap_view(opened->header, sizeof opened->header, rom, rom_length, opened->area,
-                                sizeof opened->area, number, &in_rom, &start, &length);
-    if (answer != SNAP_ACCEPTED)
-        return refused(answer == SNAP_ROM_LENGTH && rom_file != NULL ? rom_file : file, answer);
-    if (in_rom && rom_file == NULL)
-        return misused("page %u is in ROM, which the file does not hold: name a ROM with --rom", number);
-    fprintf(to, "Page %u of %s, %s", number, file, in_rom ? "ROM" : "RAM");
-    unsigned address = in_rom ? 0 : page_address(&m, number);
-    if (address != 0)
-        fprintf(to, ", seen at %04X", address);
-    fputs("\n", to);
-    print_rows(to, (in_rom ? rom : opened->area) + start);
+    *span = (struct span){memory + part->first, (long)part->first, (long)part->last};
     return ACCEPTED;
+}
+
+static enum status span_of(const char *file, const struct opened *opened, const struct part *part, const char *rom,
+                           struct span *span)
+{
+    return (part->is_range ? span_of_range : span_of_page)(file, opened, part, rom, span);
+}
+
+static void print_page_head(FILE *to, const char *file, const struct machine *m, unsigned page)
+{
+    unsigned places[2], count = page_places(m, page, places);
+    fprintf(to, "Page %u of %s, %s, %s", page, shown(file), page < 8 ? "RAM" : "ROM",
+            count == 0 ? "not paged in: offsets in it" : "");
+    for (unsigned at = 0; at < count; at++)
+        fprintf(to, "%s%04X-%04X", at == 0 ? "at " : " and ", places[at], places[at] + SNAP_PAGE_SIZE - 1);
+    fputs("\n", to);
+}
+
+static void print_range_head(FILE *to, const char *file, const struct machine *m, const struct part *part)
+{
+    fprintf(to, "Addresses %04lX-%04lX of %s", part->first, part->last, shown(file));
+    for (unsigned long quarter = part->first / SNAP_PAGE_SIZE; quarter <= part->last / SNAP_PAGE_SIZE; quarter++)
+        fprintf(to, ", page %u", m->seen[quarter]);
+    fputs("\n", to);
+}
+
+enum status print_part(FILE *to, const char *place, const char *file, const struct opened *opened, const struct part *part,
+                       const char *rom)
+{
+    struct machine m = machine_of(opened->header);
+    struct span span;
+    enum status status = span_of(place, opened, part, rom, &span);
+    if (status != ACCEPTED)
+        return status;
+    if (part->is_range)
+        print_range_head(to, file, &m, part);
+    else
+        print_page_head(to, file, &m, (unsigned)part->page);
+    print_rows(to, &span);
+    return ACCEPTED;
+}
+
+enum status put_part(const char *file, const struct opened *opened, const struct part *part, const char *rom)
+{
+    struct span span;
+    enum status status = span_of(file, opened, part, rom, &span);
+    /* a failure is told when standard output is flushed */
+    if (status == ACCEPTED)
+        fwrite(span.bytes, 1, (size_t)(span.last - span.first + 1), stdout);
+    return status;
 }

@@ -3,7 +3,8 @@
 
 const char *const function_names[FUNCTIONS] = {
     "snap_z80_read",     "snap_z80_write",   "snap_view", "snap_log_start", "snap_correct_byte",
-    "snap_correct_pair", "snap_correct_out", "snap_undo", "snap_redo",
+    "snap_correct_pair", "snap_correct_out", "snap_undo", "snap_redo",      "snap_version",
+    "snap_model",        "snap_pair",        "snap_place",
 };
 
 int is_128(const uint8_t *header)
@@ -28,6 +29,7 @@ struct call usual(enum function function, const struct lent *lent)
 uint32_t make_call(struct lent *lent, const struct call *call)
 {
     static const uint8_t rom[SNAP_ROM_SIZE_128K + 1];
+    struct figures *figures = &lent->figures;
     switch (call->function) {
     case READ:
         return snap_z80_read(call->file, call->file_len, lent->area, call->area_len, lent->header, call->header_len);
@@ -36,7 +38,7 @@ uint32_t make_call(struct lent *lent, const struct call *call)
                               &lent->length);
     case VIEW:
         return snap_view(lent->header, call->header_len, rom, call->rom_len, lent->area, call->area_len,
-                         (uint8_t)call->place, &lent->in_rom, &lent->start, &lent->length);
+                         (uint8_t)call->place, &figures->in_rom, &lent->start, &lent->length);
     case START:
         return snap_log_start(lent->log, call->log_len, &lent->standing, &lent->total);
     case BYTE:
@@ -49,6 +51,15 @@ uint32_t make_call(struct lent *lent, const struct call *call)
         return snap_undo(LOGGED);
     case REDO:
         return snap_redo(LOGGED);
+    case VERSION:
+        return snap_version() != SNAP_VERSION; /* it answers no number: 0 where it is the header file's */
+    case MODEL:
+        return snap_model(lent->header, call->header_len, &figures->model, &figures->attachment);
+    case PAIR_VALUE:
+        return snap_pair(lent->header, call->header_len, (uint8_t)call->place, &figures->pair);
+    case PLACE:
+        return snap_place(lent->header, call->header_len, call->place, &figures->in_rom, &figures->page,
+                          &figures->offset);
     case FUNCTIONS:
         break;
     }

@@ -1,4 +1,4 @@
-/* Writing, viewing and correcting the machine that stands in `ordinary`. */
+/* Writing, viewing, looking at and correcting the machine that stands in `ordinary`. */
 #include "stack.h"
 #include <string.h>
 
@@ -9,19 +9,14 @@ static int owns(unsigned page)
     return page == 0 || page == 2 || page == 5 || page == 8;
 }
 
-/* 20 and 21: header buffers and areas of other lengths, and a header that the writer does not make. */
-void try_lengths(const char *name, struct call call)
+/* 20: header buffers of other lengths, and a header that the writer does not make. */
+void try_headers(const char *name, struct call call)
 {
-    struct call other = call;
+    static const size_t lengths[3] = {0, SNAP_HEADER_SIZE - 1, SNAP_HEADER_SIZE + 1};
     for (unsigned at = 0; at < 3; at++) {
-        static const size_t headers[3] = {0, SNAP_HEADER_SIZE - 1, SNAP_HEADER_SIZE + 1};
-        static const size_t areas[3] = {0, SNAP_AREA_SIZE - 1, SNAP_AREA_SIZE + 1};
-        other = call;
-        other.header_len = headers[at];
+        struct call other = call;
+        other.header_len = lengths[at];
         try_call(name, &other, SNAP_INVALID_MACHINE);
-        other = call;
-        other.area_len = areas[at];
-        try_call(name, &other, SNAP_MEMORY_LENGTH);
     }
     for (unsigned at = 29; at < 61; at += 31) { /* 29: interrupt mode 3; 60: a Multiface paged in */
         uint8_t kept = ordinary.header[at];
@@ -30,6 +25,17 @@ void try_lengths(const char *name, struct call call)
         try_call(name, &call, SNAP_INVALID_MACHINE);
         ordinary.header[at] = kept;
         level();
+    }
+}
+
+/* The same, and 21: areas of other lengths. */
+void try_lengths(const char *name, struct call call)
+{
+    static const size_t areas[3] = {0, SNAP_AREA_SIZE - 1, SNAP_AREA_SIZE + 1};
+    try_headers(name, call);
+    for (unsigned at = 0; at < 3; at++) {
+        call.area_len = areas[at];
+        try_call(name, &call, SNAP_MEMORY_LENGTH);
     }
 }
 
@@ -82,6 +88,7 @@ void use_machine(const char *name)
     static const size_t logs[5] = {0, SNAP_LOG_STEP - 1, SNAP_LOG_STEP, 100, 1000};
     try_writes(name);
     try_views(name);
+    try_looks(name);
     for (unsigned at = 0; at < 5; at++)
         try_log(name, logs[at]);
 }

@@ -11,14 +11,18 @@
 /* Below each stack, where nothing may be touched: so wide that no local array of a wrong call reaches past it. */
 #define GUARD_SIZE 1048576u
 
-/* The exported functions. */
-enum function { READ, WRITE, VIEW, START, BYTE, PAIR, OUT, UNDO, REDO, FUNCTIONS };
+/* The exported functions; the last four look at a machine or at the library. */
+enum function { READ, WRITE, VIEW, START, BYTE, PAIR, OUT, UNDO, REDO, VERSION, MODEL, PAIR_VALUE, PLACE, FUNCTIONS };
 extern const char *const function_names[FUNCTIONS];
 
 /* The buffers lent to calls. Each has room for a length that is one too long. */
 struct lent {
     uint8_t header[SNAP_HEADER_SIZE + 1], area[SNAP_AREA_SIZE + 1], log[SNAP_LOG_MOST + SNAP_LOG_STEP];
-    uint8_t out[SNAP_FILE_MOST + 1], in_rom;
+    uint8_t out[SNAP_FILE_MOST + 1];
+    struct figures {
+        uint8_t in_rom, model, attachment, page;
+        uint16_t pair, offset;
+    } figures;
     uint64_t standing, total, length, start;
 };
 
@@ -73,9 +77,11 @@ void try_stored(const char *path);
 uint64_t next(uint64_t *seed);
 void try_made(void);
 
-/* machines.c, corrections.c: all that is done with a machine once it is read. */
+/* machines.c, looks.c, corrections.c: all that is done with a machine once it is read. */
 void use_machine(const char *name);
+void try_headers(const char *name, struct call call);
 void try_lengths(const char *name, struct call call);
+void try_looks(const char *name);
 void try_log(const char *name, size_t log_len);
 
 /* threads.c */

@@ -41,16 +41,16 @@ static uint64_t add(uint64_t sum, const void *from, size_t length)
 /* Which call comes next: reads and writes are rarer, since they are longer. */
 static struct call pick(const struct lent *lent, uint64_t *seed)
 {
-    static const enum function often[15] = {BYTE, BYTE, BYTE, PAIR, PAIR, PAIR, OUT, OUT,
-                                            UNDO, UNDO, UNDO, REDO, REDO, VIEW, VIEW};
+    static const enum function often[19] = {BYTE, BYTE, BYTE, PAIR, PAIR, PAIR,    OUT,   OUT,        UNDO, UNDO,
+                                            UNDO, REDO, REDO, VIEW, VIEW, VERSION, MODEL, PAIR_VALUE, PLACE};
     static const enum function seldom[4] = {START, START, READ, WRITE};
     uint64_t word = next(seed);
-    enum function function = word % 16 < 15 ? often[word % 16] : seldom[word / 16 % 4];
+    enum function function = word % 20 < 19 ? often[word % 20] : seldom[word / 20 % 4];
     struct call call = usual(function, lent);
     const struct file *file = &files[(word >> 8) % file_count];
     call.file = file->bytes;
     call.file_len = file->length;
-    call.place = (uint16_t)(function == BYTE ? word >> 16 : (word >> 16) % 13);
+    call.place = (uint16_t)(function == BYTE || function == PLACE ? word >> 16 : (word >> 16) % 13);
     call.value = (uint16_t)(word >> 32);
     if (word >> 48 & 1)
         call.out_len = (size_t)(word >> 49) % SNAP_FILE_MOST;
@@ -66,7 +66,7 @@ static uint64_t sum_of(const struct lent *lent, const struct call *call, uint32_
     sum = add(sum, &lent->total, sizeof lent->total);
     sum = add(sum, &lent->length, sizeof lent->length);
     sum = add(sum, &lent->start, sizeof lent->start);
-    sum = add(sum, &lent->in_rom, 1);
+    sum = add(sum, &lent->figures, sizeof lent->figures);
     if (call->function == READ || at % 64 == 0)
         sum = add(sum, lent->area, sizeof lent->area);
     if (call->function == WRITE)

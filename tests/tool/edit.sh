@@ -1,4 +1,4 @@
-# edit: corrections, undo, redo, list and save, from scripts, from standard input and at the prompt.
+# edit: corrections, undo, redo, list and save, from scripts and from standard input.
 
 # lines LINE..: the lines as the script for the next run.
 lines() { printf '%s\n' "$@" >"$work/script"; }
@@ -115,7 +115,7 @@ check "refused lines end a script with their number, and nothing is saved" refus
 
 wrong_lines() {
     local line
-    for line in 'byte' 'byte 8000' 'byte 8000 100' 'byte 10000 00' 'byte 8000 1 2' 'byte 80g0 1' 'byte -1 1' 'byte 0x 1' 'pair' 'pair AX 1' 'pair HL 10000' 'out' 'out 100' 'undo x' 'undo -1' 'undo 99999' 'view' 'view x' 'view 8' 'poke 1 2' "$(printf 'x%.0s' {1..300})"; do
+    for line in 'byte' 'byte 8000' 'byte 8000 100' 'byte 10000 00' 'byte 8000 1 100' 'byte 80g0 1' 'byte -1 1' 'byte 0x 1' 'pair' 'pair AX 1' 'pair HL 10000' 'out' 'out 100' 'undo x' 'undo -1' 'undo 99999' 'view' 'view x' 'view 8' 'poke 1 2' "$(printf 'x%.0s' {1..300})"; do
         lines "$line" 'save'
         run_tool 2 edit samples/museum-48k.z80 -o "$work/w.z80" --script "$work/script"
         grep -qF "$work/script:1: " "$work/err" || [ "$line" = 'view 8' ]
@@ -140,12 +140,3 @@ from_standard_input() {
     [ "$(page_byte "$work/i.z80" 2 0000)" = 01 ]
 }
 check "standard input that is no terminal is a script" from_standard_input
-
-# at a terminal: the up arrow brings the last line back, so the byte is corrected twice; then both are taken back
-prompt() {
-    printf 'byte 8000 01\n\033[A\nundo\nbyte 0 0\nundo\nredo\nsave\nquit\n' | script -qec "$tool edit samples/museum-48k.z80 -o $work/t.z80" /dev/null >"$work/terminal"
-    grep -qF 'refused, 23: ' "$work/terminal"
-    [ "$(grep -cF 'corrected: byte in page 2 at offset 0000' "$work/terminal")" -eq 2 ]
-    [ "$(page_byte "$work/t.z80" 2 0000)" = 01 ]
-}
-check "at the prompt: line editing, history, and a refused line that does not end it" prompt

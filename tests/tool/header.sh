@@ -1,8 +1,17 @@
-# The header file, the installed library, the example and the samples.
+# The header file, held to itself and to the library; the samples.
+
+# declared: the functions of the library that the header declares; functions: these and what it defines itself.
+declared() { sed -nE 's/^uint32_t (snap_[a-z0-9_]+)\(.*/\1/p' include/snapshot.h | sort; }
+functions() { sed -nE 's/^(static inline )?(uint32_t |const char \*)(snap_[a-z0-9_]+)\(.*/\3/p' include/snapshot.h | sort; }
 
 header_compiles() {
     echo '#include "snapshot.h"
-int main(void) { return snap_sentence(SNAP_ACCEPTED)[0] == 0; }' >"$work/alone.c"
+int main(void)
+{
+    enum snap_model model = SNAP_48K;
+    enum snap_pair pair = SNAP_AF;
+    return snap_sentence(SNAP_ACCEPTED)[0] == 0 || model != 0 || pair != 0;
+}' >"$work/alone.c"
     gcc -std=c99 -Wall -Wextra -Wpedantic -Werror -Iinclude "$work/alone.c" -o "$work/alone_c"
     g++ -x c++ -std=c++17 -Wall -Wextra -Wpedantic -Werror -Iinclude "$work/alone.c" -o "$work/alone_cpp"
     "$work/alone_c"
@@ -16,34 +25,39 @@ sentences() {
 }
 check "every number of the table has its own sentence, and no other has one" sentences
 
-installed() {
-    make install PREFIX="$work/usr" >"$work/install"
-    cat >"$work/linked.c" <<'C'
-#include <snapshot.h>
-#include <stdio.h>
-int main(void)
-{
-    uint8_t log[SNAP_LOG_STEP];
-    uint64_t standing = 7, total = 7;
-    uint32_t number = snap_log_start(log, sizeof log, &standing, &total);
-    printf("%u %u %u\n", (unsigned)number, (unsigned)standing, (unsigned)total);
-    return 0;
+header_bytes() {
+    gcc "${strict[@]}" "${sanitized[@]}" tests/tool/header_bytes.c "$lib" -o "$work/header_bytes"
+    "$work/header_bytes" >"$work/named"
+    sed -nE 's/^ *(SNAP_AT_[A-Z0-9_]+) = ([0-9]+).*/\1 \2/p' include/snapshot.h >"$work/in_header"
+    diff "$work/in_header" "$work/named"
 }
-C
-    export PKG_CONFIG_PATH=$work/usr/lib/pkgconfig
-    gcc $(pkg-config --cflags snapshot) "$work/linked.c" $(pkg-config --libs snapshot) -o "$work/linked"
-    [ "$("$work/linked")" = "0 0 0" ]
-    [ "$("$work/usr/bin/snapshot" --version)" = "snapshot $(pkg-config --modversion snapshot)" ]
-    mandoc -T lint "$work/usr/share/man/man1/snapshot.1"
-}
-check "installed: a program links by pkg-config, the tool runs, the manual page is clean" installed
+check "each of the 86 header bytes has one name, and takes exactly the values that its comment allows" header_bytes
 
-example() {
-    gcc "${strict[@]}" "${sanitized[@]}" examples/server_slots.c "$lib" -o "$work/server_slots"
-    "$work/server_slots" >"$work/server_slots.out"
-    diff examples/server_slots.out "$work/server_slots.out"
+no_bare_places() {
+    local places
+    places=$(grep -nE 'header *(\[|\+) *[0-9]' tools/*.c examples/*.[ch] samples/make.c || true)
+    [ -z "$places" ] || { echo "$places"; return 1; }
 }
-check "the example prints what is stored, under the sanitizers" example
+check "the tool, the examples and the samples' maker name the header bytes that they use" no_bare_places
+
+promises() {
+    gcc "${strict[@]}" "${sanitized[@]}" tests/tool/promises.c "$lib" -o "$work/promises"
+    "$work/promises" samples/museum-128k.z80
+}
+check "a log's steps by name, a stored log handed back, pages not owned and the ROM's length: as the header says" promises
+
+version() {
+    local major minor patch text
+    echo '#include "snapshot.h"
+#include <stdio.h>
+int main(void) { printf("%u %s\n", SNAP_VERSION, SNAP_VERSION_TEXT); return 0; }' >"$work/version.c"
+    gcc "${strict[@]}" "$work/version.c" -o "$work/version"
+    text=$("$work/version" | cut -d ' ' -f 2)
+    IFS=. read -r major minor patch <<<"$text"
+    [ "$("$work/version")" = "$((10000 * major + 100 * minor + patch)) $text" ]
+    [ "$(grep -rlF "$text" Makefile include tools man examples)" = include/snapshot.h ]
+}
+check "the version is the same as number and as text, and stands in the header alone" version
 
 samples() {
     pasmo samples/border.asm "$work/border.bin"
@@ -53,10 +67,3 @@ samples() {
     cmp samples/museum-128k.z80 "$work/museum-128k.z80"
 }
 check "the samples come out of their sources byte for byte" samples
-
-demo() {
-    bash tools/demo >"$work/demo" 2>&1
-    [ "$(tail -n 1 "$work/demo")" = "make demo: done" ]
-    grep -qF "refused, 30: " "$work/demo"
-}
-check "the demo runs to its end and shows the refusal" demo

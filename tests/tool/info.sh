@@ -52,9 +52,10 @@ info_text() {
     grep -qF "Border     1, blue" "$work/out"
     grep -qF "2  at 8000-BFFF     34 bytes not zero" "$work/out"
     run_tool 0 info samples/museum-128k.z80
-    grep -qF "last OUT to 7FFD 18: page 0 at C000, screen in page 7, ROM 1, not locked" "$work/out"
+    grep -qF "last OUT to 7FFD 18, not locked" "$work/out"
+    grep -qF "page 0 at C000, screen in page 7, ROM 1" "$work/out"
     run_tool 0 info --json samples/museum-48k.z80
-    [ "$(jq -c '.ports, .pages[2]' "$work/out" | paste -s -d ' ')" = 'null {"page":5,"address":16384,"not_zero":3140}' ]
+    [ "$(jq -c '.ports, .pages[2]' "$work/out" | paste -s -d ' ')" = 'null {"page":5,"addresses":[16384],"not_zero":3140}' ]
 }
 check "info as text and as JSON, 48K and 128K" info_text
 
@@ -77,3 +78,114 @@ refused_files() {
     [ "$count" -ge 5 ]
 }
 check "every refused stored file with its number" refused_files
+
+# patched OUT FILE PLACE HEX..: a copy of a file with other bytes from a place on, as often as there are two words.
+patched() {
+    local out=$1
+    cp "$2" "$out"
+    shift 2
+    while [ $# -gt 0 ]; do
+        xxd -r -p <<<"$2" | dd of="$out" bs=1 seek="$1" conv=notrunc status=none
+        shift 2
+    done
+}
+# as_version_2 OUT FILE MODE: a version 3 file as one of version 2; as_version_1 OUT FILE: its registers over empty memory.
+as_version_2() {
+    {
+        head -c 30 "$2"
+        printf '\x17\0'
+        head -c 34 "$2" | tail -c 2
+        xxd -r -p <<<"$3"
+        head -c 55 "$2" | tail -c 20
+        tail -c +87 "$2"
+    } >"$1"
+}
+as_version_1() {
+    { head -c 6 "$2"; head -c 34 "$2" | tail -c 2; head -c 30 "$2" | tail -c 22; head -c 49152 /dev/zero; } >"$1"
+}
+
+versions() {
+    local version
+    # its memory begins as the second part of a version 3 header does
+    as_version_1 "$work/plain1.z80" samples/museum-48k.z80
+    patched "$work/version1.z80" "$work/plain1.z80" 30 3600
+    as_version_2 "$work/version2.z80" samples/museum-128k.z80 03
+    cp samples/museum-48k.z80 "$work/version3.z80"
+    for version in 1 2 3; do
+        run_tool 0 info "$work/version$version.z80"
+        [ "$(sed -n 2p "$work/out")" = "Format     version $version, $(stat -c %s "$work/version$version.z80") bytes" ]
+        sed 2d "$work/out" >"$work/machine"
+        run_tool 0 info --json "$work/version$version.z80"
+        [ "$(jq -c '[.version, .length]' "$work/out")" = "[$version,$(stat -c %s "$work/version$version.z80")]" ]
+        # what is edited is a machine, not a file
+        echo info >"$work/script"
+        run_tool 0 edit "$work/version$version.z80" -o "$work/never.z80" --script "$work/script"
+        diff "$work/machine" "$work/out"
+    done
+    [ "$(stat -c %s "$work/version1.z80")" -eq 49182 ]
+}
+check "the version and length of the file, in info and not in an edited machine" versions
+
+two_places() {
+    patched "$work/five.z80" samples/museum-128k.z80 35 05
+    patched "$work/two.z80" samples/museum-128k.z80 35 02
+    run_tool 0 info "$work/five.z80"
+    grep -qxE ' +5  at 4000-7FFF and C000-FFFF +33 bytes not zero' "$work/out"
+    grep -qxE ' +2  at 8000-BFFF +34 bytes not zero' "$work/out"
+    grep -qxE 'Pages +0  not paged in +33 bytes not zero' "$work/out"
+    run_tool 0 info "$work/two.z80"
+    grep -qxE ' +2  at 8000-BFFF and C000-FFFF +34 bytes not zero' "$work/out"
+    run_tool 0 info --json "$work/five.z80"
+    [ "$(jq -c '[.pages[] | .addresses]' "$work/out")" = "[[],[],[32768],[],[],[16384,49152],[],[]]" ]
+    run_tool 0 info --json "$work/two.z80"
+    [ "$(jq -c '[.pages[] | .addresses]' "$work/out")" = "[[],[],[32768,49152],[],[],[16384],[],[]]" ]
+}
+check "both addresses of a page that is seen twice" two_places
+
+narrow() {
+    local file
+    # the longest names of settings, page 5 at two places, a number of five digits in each page
+    patched "$work/wide.z80" tests/files/128k-noise.z80 29 9D 34 06 35 25 59 FF
+    for file in "$work/wide.z80" $(accepted_files) samples/*.z80; do
+        run_tool 0 info "$file"
+        sed 1d "$work/out" >"$work/lines"
+        [ "$(wc -l <"$work/lines")" -ge 16 ]
+        if grep -E '.{81}' "$work/lines"; then false; fi
+    done
+}
+check "no line of info is wider than 80 columns" narrow
+
+json_refusals() {
+    local file number rest count=0
+    while read -r file number rest; do
+        if [ "$number" = 0 ]; then continue; fi
+        run_tool 1 info "tests/files/$file"
+        mv "$work/err" "$work/told"
+        run_tool 1 info --json "tests/files/$file"
+        [ ! -s "$work/err" ]
+        # the same in both forms
+        jq -r '"snapshot: \(.file): refused, \(.refused): \(.sentence)\(if .hint then " (\(.hint))" else "" end)"' \
+            "$work/out" | diff "$work/told" -
+        [ "$(jq .refused "$work/out")" -eq "$number" ]
+        count=$((count + 1))
+    done < <(grep -E '^[^ ]+\.z80 ' tests/files/expected.txt)
+    [ "$count" -ge 5 ]
+    head -c 100 samples/museum-48k.z80 >"$work/cut.z80"
+    run_tool 1 info "$work/cut.z80" --json
+    [ "$(cat "$work/out")" = '{"refused": 8, "sentence": "a block is cut short", "file": "'"$work"'/cut.z80"}' ]
+    [ ! -s "$work/err" ]
+}
+check "a refusal under --json is JSON, alone" json_refusals
+
+json_errors() {
+    run_tool 3 info --json "$work/absent"
+    [ "$(cat "$work/out")" = '{"error": "cannot be opened: No such file or directory", "file": "'"$work"'/absent"}' ]
+    [ ! -s "$work/err" ]
+    run_tool 3 info --json "$work"
+    [ "$(jq -r .error "$work/out")" = "is a directory" ]
+    head -c 524383 /dev/zero >"$work/longest"
+    run_tool 3 info --json "$work/longest"
+    [ "$(jq -r .error "$work/out")" = "longer than any file of its kind" ]
+    [ ! -s "$work/err" ]
+}
+check "a system error under --json is JSON, alone" json_errors

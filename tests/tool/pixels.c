@@ -1,12 +1,14 @@
-/* pixels.c: a PNG held to the screen that a file saves: pixels PNG FILE. It goes through the bytes of screen memory and says
- * where each must be seen. */
+/* pixels.c: a PNG held to the screen that a file saves: pixels PNG FILE [SCALE [PAGE]]. It goes through the bytes of screen
+ * memory and says where each must be seen. */
 #include <png.h>
 #include <stdio.h>
+#include <stdlib.h>
 #include <string.h>
 
 #include "snapshot.h"
 
 static uint8_t file[SNAP_READ_MOST], area[SNAP_AREA_SIZE], header[SNAP_HEADER_SIZE], seen[240][320][3];
+static uint8_t dots[8 * 240 * 8 * 320][3];
 
 static int wrong(const char *what, unsigned x, unsigned y)
 {
@@ -48,16 +50,33 @@ static int border_differs(unsigned colour)
     return 0;
 }
 
+/* One dot for each pixel, all of whose dots must be equal. */
+static int dots_differ(unsigned scale)
+{
+    for (unsigned y = 0; y < 240 * scale; y++)
+        for (unsigned x = 0; x < 320 * scale; x++) {
+            const uint8_t *dot = dots[y * 320 * scale + x];
+            if (x % scale == 0 && y % scale == 0)
+                memcpy(seen[y / scale][x / scale], dot, 3);
+            else if (memcmp(seen[y / scale][x / scale], dot, 3) != 0)
+                return wrong("dot", x, y);
+        }
+    return 0;
+}
+
 int main(int argc, char **argv)
 {
     png_image image = {.version = PNG_IMAGE_VERSION};
-    if (argc != 3 || !png_image_begin_read_from_file(&image, argv[1]))
+    if (argc < 3 || !png_image_begin_read_from_file(&image, argv[1]))
         return wrong("no PNG", 0, 0);
-    if (image.width != 320 || image.height != 240)
+    unsigned scale = argc > 3 ? (unsigned)atoi(argv[3]) : 1;
+    if (scale > 8 || image.width != 320 * scale || image.height != 240 * scale)
         return wrong("another size", image.width, image.height);
     image.format = PNG_FORMAT_RGB;
-    if (!png_image_finish_read(&image, NULL, seen, 0, NULL))
+    if (!png_image_finish_read(&image, NULL, dots, 0, NULL))
         return wrong("a damaged PNG", 0, 0);
+    if (dots_differ(scale))
+        return 1;
     FILE *from = fopen(argv[2], "rb");
     if (from == NULL)
         return wrong("no file", 0, 0);
@@ -65,6 +84,6 @@ int main(int argc, char **argv)
     fclose(from);
     if (snap_z80_read(file, length, area, sizeof area, header, sizeof header) != SNAP_ACCEPTED)
         return wrong("a refused file", 0, 0);
-    unsigned page = header[34] >= 4 && (header[35] & 8) ? 7 : 5;
+    unsigned page = argc > 4 ? (unsigned)atoi(argv[4]) : header[34] >= 4 && (header[35] & 8) ? 7 : 5;
     return screen_differs(area + page * SNAP_PAGE_SIZE) || border_differs(header[12] >> 1 & 7);
 }

@@ -41,6 +41,44 @@ killed() { every_fault kill 137; }
 check "a full disk, at every call: the old file is whole, exit status 3, nothing left behind" full_disk
 check "a kill, at every call: the old file is whole, or the new one" killed
 
+# a snapshot and its log: before both are on the disk neither is new, and where only one is, it is said
+pair_of_files() {
+    local at status faults=0 folder=$work/disk
+    rm -rf "$work/pair"
+    mkdir "$work/pair"
+    lines 'byte 9000 01' 'save'
+    target/snapshot edit samples/museum-48k.z80 -o "$work/pair/out.z80" --script "$work/script"
+    lines 'byte 9001 02' 'save'
+    for at in $(seq 1 40); do
+        rm -rf "$folder"
+        cp -r "$work/pair" "$folder"
+        status=$(with_fault full "$at" edit "$folder/out.z80" -o "$folder/out.z80" --script "$work/script" 2>/dev/null)
+        [ "$(ls "$folder" | paste -s -d ' ')" = "out.z80 out.z80.snaplog" ]
+        if [ "$status" -eq 0 ]; then continue; fi
+        faults=$((faults + 1))
+        [ "$status" -eq 3 ]
+        cmp "$folder/out.z80.snaplog" "$work/pair/out.z80.snaplog"
+        cmp "$folder/out.z80" "$work/pair/out.z80" || grep -qF "out.z80: is saved, but $folder/out.z80.snaplog is still" "$work/err"
+    done
+    [ "$faults" -ge 20 ]
+}
+second_rename() {
+    local folder=$work/disk
+    rm -rf "$folder"
+    cp -r "$work/pair" "$folder"
+    lines 'byte 9001 02' 'save'
+    [ "$(with_fault rename 2 edit "$folder/out.z80" -o "$folder/out.z80" --script "$work/script")" -eq 3 ]
+    grep -qF "snapshot: $folder/out.z80.snaplog: cannot be written: No space left on device" "$work/err"
+    grep -qxF "snapshot: $folder/out.z80: is saved, but $folder/out.z80.snaplog is still as it was" "$work/err"
+    [ "$(page_byte "$folder/out.z80" 2 1001)" = 02 ]
+    cmp "$folder/out.z80.snaplog" "$work/pair/out.z80.snaplog"
+    [ "$(with_fault rename 1 edit "$work/pair/out.z80" -o "$folder/out.z80" --script "$work/script")" -eq 3 ]
+    [ "$(ls "$folder" | paste -s -d ' ')" = "out.z80 out.z80.snaplog" ]
+    cmp "$folder/out.z80.snaplog" "$work/pair/out.z80.snaplog"
+}
+check "a full disk, at every call: snapshot and log are both as they were, or it is said which is not" pair_of_files
+check "where the second rename fails it is said which file is new" second_rename
+
 limit() {
     local status=0
     cp samples/museum-128k.z80 "$work/limited.z80"

@@ -17,10 +17,12 @@ use Rattle.packed.specs.Packed.{Found, malformed, bytes}
 use Rattle.pages.specs.declared.Model.{Model}
 use Rattle.numbers.specs.declared.Refusal.{Refusal}
 use Rattle.numbers.specs.declared.Refusal.the-variants.{BlockCut, BlockTwice, UnpackedLength}
-use Rattle.blocks.specs.declared.Page.{Page}
-use Rattle.blocks.specs.declared.Page.the-variants.{At, NoPage}
-use Rattle.blocks.specs.Blocks.{pageOf, Block, refused, brought, sizeOf, pageFrom, onPage, blockOf, BodyResult, bodyRead, afterBlock, blocks, noneSeen, blocksInto}
-use Rattle.blocks.proofs.Heads.{page-small}
+use Rattle.block_pages.specs.declared.Page.{Page}
+use Rattle.block_pages.specs.declared.Page.the-variants.{At, NoPage}
+use Rattle.block_read.specs.Block.{Block, refused, brought, sizeOf, pageFrom, onPage, blockOf}
+use Rattle.blocks.specs.Blocks.{BodyResult, bodyRead, afterBlock, blocks, noneSeen, blocksInto}
+use Rattle.block_pages.specs.Numbered.{pageOf}
+use Rattle.block_read.proofs.Heads.{page-small}
 
 -- how many of the flags are not set
 left : List Bool → ℕ

@@ -1,5 +1,2 @@
-pub mod Pages
-pub mod Answers
-mod Heads
 pub mod Turns
 pub mod Lengths

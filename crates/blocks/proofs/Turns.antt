@@ -4,29 +4,32 @@ use mathlib.Core.Path.{_≡_, refl, sym, ap, subst, _∙_}
 use mathlib.Core.Bool.{Bool, true, false}
 use mathlib.Core.List.{List}
 use native.Mathlib.Omega.{arith}
-use lib.ListN.{length, set, drop, length-drop}
+use lib.ListN.{length, set, drop, replicate, length-drop}
 use borrow.Author.Tests.{eq-eqb, ne-eqb}
 use Rattle.slices.specs.Choose.{choose}
 use Rattle.slices.specs.Put.{put}
+use Rattle.slices.specs.Blank.{blank}
 use Rattle.pages.specs.declared.Model.{Model}
 use Rattle.numbers.specs.declared.Refusal.{Refusal}
 use Rattle.numbers.specs.declared.Refusal.the-variants.{BlockMissing}
 use Rattle.numbers.specs.declared.Answer.{Answer}
 use Rattle.numbers.specs.declared.Answer.the-variants.{Accepted}
-use Rattle.blocks.specs.declared.BlockStep.{BlockStep}
-use Rattle.blocks.specs.declared.BlockStep.the-variants.{Failed, Next}
-use Rattle.blocks.specs.Blocks.{allThere, Block, blockOf, BodyResult, bodyRefused, bodyRead, ReadsBody, afterBlock, finished, blocks, noneSeen, blocksInto}
-use Rattle.blocks.specs.Inner.{Refuses, Brings, StepSays}
+use Rattle.block_read.specs.declared.BlockStep.{BlockStep}
+use Rattle.block_read.specs.declared.BlockStep.the-variants.{Failed, Next}
+use Rattle.block_read.specs.Block.{Block, blockOf}
+use Rattle.blocks.specs.Blocks.{BodyResult, bodyRefused, bodyRead, ReadsBody, afterBlock, finished, blocks, noneSeen, blocksInto}
+use Rattle.block_pages.specs.Numbered.{allThere}
+use Rattle.block_read.specs.Inner.{Refuses, Brings, StepSays}
 
-pub record Going (model : Model) (file : List ℕ) (all : BodyResult) (area : List ℕ) (seen : List Bool) (at : ℕ) : Type 0 where
+pub record BlocksSoFar (model : Model) (file : List ℕ) (all : BodyResult) (area : List ℕ) (seen : List Bool) (at : ℕ) : Type 0 where
   pub turns : ℕ
   pub enough : length file - at ≤ turns
   pub same : blocks model turns seen area (drop at file) ≡ all
 
-pub going-none : (model : Model) (file : List ℕ) (area : List ℕ) (from : ℕ)
-    → Going model file (blocksInto model area (drop from file)) area noneSeen from
+pub blocks-begin : (model : Model) (file : List ℕ) (area : List ℕ) (from : ℕ)
+    → BlocksSoFar model file (blocksInto model area (drop from file)) area noneSeen from
 unfolding blocksInto
-going-none model file area from = record { turns = length (drop from file); enough = omega (arith, length-drop from file); same = refl }
+blocks-begin model file area from = record { turns = length (drop from file); enough = omega (arith, length-drop from file); same = refl }
 
 -- one turn of the definition, where there is a byte left
 pub turn : (model : Model) (turns : ℕ) (seen : List Bool) (area s : List ℕ) → 0 < length s
@@ -52,7 +55,7 @@ module _ (model : Model) (file area after : List ℕ) (seen : List Bool) (at : �
   pub next-falls : at < length file → length file - next < length file - at
   next-falls h = let b = step-brings in omega arith
 
-module _ (model : Model) (file : List ℕ) (all : BodyResult) (area : List ℕ) (seen : List Bool) (at : ℕ) (g : Going model file all area seen at) where
+module _ (model : Model) (file : List ℕ) (all : BodyResult) (area : List ℕ) (seen : List Bool) (at : ℕ) (g : BlocksSoFar model file all area seen at) where
   -- with a byte left there is a turn left
   read-on : at < length file
       → (t : ℕ) × ((length file - at ≤ suc t)
@@ -66,7 +69,7 @@ module _ (model : Model) (file : List ℕ) (all : BodyResult) (area : List ℕ) 
       go (suc t) e q = (t, (e, sym (turn model t seen area (drop at file) (omega (arith, length-drop at file))) ∙ q))
 
   pub going-more : (after : List ℕ) (step : BlockStep) (page next : ℕ) → at < length file → StepSays model seen file at area after step → step ≡ Next page next
-      → Going model file all after (set seen page true) next
+      → BlocksSoFar model file all after (set seen page true) next
   going-more after step page next h s e =
       let b = step-brings model file area after seen at step page next s e in
       let r = read-on h in
@@ -95,3 +98,8 @@ module _ (model : Model) (file : List ℕ) (all : BodyResult) (area : List ℕ) 
 
   pub going-missing : (b : Bool) (clear : List ℕ) (r : Answer) → length file ≤ at → b ≡ allThere model seen → b ≡ false → ReadsBody (bodyRefused BlockMissing) r clear → ReadsBody all r clear
   going-missing b clear r h e t q = subst (λ (x : BodyResult). ReadsBody x r clear) (rw t at (at-end h b e)) q
+
+-- the whole area filled with zeros
+pub area-cleared : (before after : List ℕ) → length before ≡ 131072 → after ≡ replicate (length before) 0 → after ≡ blank 131072
+unfolding blank
+area-cleared before after l e = e ∙ ap (λ (n : ℕ). replicate n 0) l

@@ -19,7 +19,7 @@ use Rattle.numbers.specs.declared.Answer.{Answer}
 use Rattle.numbers.specs.declared.Answer.the-variants.{Accepted, Refused}
 use Rattle.body_v1.specs.Body.{marked, spread, spreadFrom, bodyInto}
 use Rattle.blocks.specs.Blocks.{ReadsBody}
-use Rattle.blocks.proofs.Answers.{good-is, malformed-is, wrong-is}
+use Rattle.block_read.proofs.Answers.{good-is, malformed-is, wrong-is}
 
 -- what stands from n on, as a part
 abbrev rest : List ℕ → ℕ → List ℕ
@@ -47,8 +47,8 @@ marked-is s r p =
     let e = to-end s (length s - 4) in
     same-is (drop (length s - 4) s) marker r (λ h. sym e ∙ p .0 h) (λ h. p .1 (e ∙ h))
 
-pub moved : (area body after : List ℕ) (base k : ℕ) → after ≡ put area base (take (k + 16384 - k) (drop k body)) → after ≡ put area base (take 16384 (drop k body))
-moved area body after base k e =
+pub moved-page : (area body after : List ℕ) (base k : ℕ) → after ≡ put area base (take (k + 16384 - k) (drop k body)) → after ≡ put area base (take 16384 (drop k body))
+moved-page area body after base k e =
     let d : k + 16384 - k ≡ 16384 = omega arith in
     e ∙ rw d
 

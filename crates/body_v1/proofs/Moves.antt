@@ -34,7 +34,7 @@ use Rattle.numbers.specs.declared.Answer.the-variants.{Accepted, Refused}
 use Rattle.body_v1.specs.Body.{spread, spreadFrom}
 use Rattle.body_v1.specs.Inner.{pageMoved, topCleared, settled}
 use Rattle.blocks.specs.Blocks.{ReadsBody}
-use Rattle.blocks.proofs.Answers.{good-is, refused-zeros}
+use Rattle.block_read.proofs.Answers.{good-is, refused-zeros}
 use Rattle.body_v1.proofs.Bodies.{body-good, body-malformed, body-wrong}
 
 -- k bytes of the page at `from` stand at `to` too
@@ -89,9 +89,9 @@ unfolding settled
 settle-is a b c d p q r = rw (r, q, p)
 
 -- bytes written within the front of a list
-put-front : (x y s : List ℕ) (at : ℕ) → at + length s ≤ length x → put (x ++ y) at s ≡ put x at s ++ y
+put-in-front : (x y s : List ℕ) (at : ℕ) → at + length s ≤ length x → put (x ++ y) at s ≡ put x at s ++ y
 unfolding put
-put-front x y s at h = rw (take-append-le at x y (omega arith), drop-append-le (at + length s) x y h) (simp append-assoc)
+put-in-front x y s at h = rw (take-append-le at x y (omega arith), drop-append-le (at + length s) x y h) (simp append-assoc)
 
 end-zeros : (b : List ℕ) (n m k : ℕ) → b ≡ blank (n + m) → k ≡ m → replicate k 0 ≡ drop n b
 unfolding blank
@@ -146,7 +146,7 @@ module _ (b xs : List ℕ) (lb : length b ≡ 131072) (eb : b ≡ blank 131072) 
   moved-second =
       let f = long-front in
       let p = long-page back (omega (arith, long-back)) in
-      ap (λ (z : List ℕ). put (front ++ back) 32768 (take 16384 z)) (drop-at front back 98304 long-front) ∙ put-front front back (take 16384 back) 32768 (omega arith)
+      ap (λ (z : List ℕ). put (front ++ back) 32768 (take 16384 z)) (drop-at front back 98304 long-front) ∙ put-in-front front back (take 16384 back) 32768 (omega arith)
 
   moved-third : pageMoved (second ++ back) 114688 0 ≡ third ++ back
   unfolding third pageMoved
@@ -154,7 +154,7 @@ module _ (b xs : List ℕ) (lb : length b ≡ 131072) (eb : b ≡ blank 131072) 
       let f = long-second in
       let p = long-rest in
       ap (λ (z : List ℕ). put (second ++ back) 0 (take 16384 z)) (ap (λ (n : ℕ). drop (n + 16384) (second ++ back)) (sym long-second) ∙ drop-append-add second back 16384)
-      ∙ put-front second back (take 16384 (drop 16384 back)) 0 (omega arith)
+      ∙ put-in-front second back (take 16384 (drop 16384 back)) 0 (omega arith)
 
   -- the same bytes written over zeros one by one
   first-written : put b 81920 (take 16384 xs) ≡ front ++ drop 98304 b
@@ -168,7 +168,7 @@ module _ (b xs : List ℕ) (lb : length b ≡ 131072) (eb : b ≡ blank 131072) 
   second-written =
       let f = long-front in
       let p = long-page back (omega (arith, long-back)) in
-      put-front front (drop 98304 b) (take 16384 (drop 16384 xs)) 32768 (omega arith)
+      put-in-front front (drop 98304 b) (take 16384 (drop 16384 xs)) 32768 (omega arith)
 
   third-written : put (second ++ drop 98304 b) 0 (take 16384 (drop 32768 xs)) ≡ third ++ drop 98304 b
   unfolding third back
@@ -176,7 +176,7 @@ module _ (b xs : List ℕ) (lb : length b ≡ 131072) (eb : b ≡ blank 131072) 
       let f = long-second in
       let p = long-rest in
       ap (λ (z : List ℕ). put (second ++ drop 98304 b) 0 (take 16384 z)) (sym (drop-drop 16384 16384 xs))
-      ∙ put-front second (drop 98304 b) (take 16384 (drop 16384 (drop 16384 xs))) 0 (omega arith)
+      ∙ put-in-front second (drop 98304 b) (take 16384 (drop 16384 (drop 16384 xs))) 0 (omega arith)
 
   spread-is : spread b xs ≡ third ++ drop 98304 b
   unfolding spread

@@ -6,8 +6,8 @@ use lib.Dec.{eqb}
 use Rattle.slices.specs.Choose.{choose}
 use Rattle.numbers.specs.declared.Answer.{Answer}
 use Rattle.numbers.specs.Numbers.{numberOf}
-use Rattle.journal.specs.declared.Call.{Call}
-use Rattle.journal.specs.declared.Call.the-variants.{Byte, Pair, Out, Undo, Redo}
+use Rattle.five_calls.specs.declared.Call.{Call}
+use Rattle.five_calls.specs.declared.Call.the-variants.{Byte, Pair, Out, Undo, Redo}
 
 -- the call at a number: its kind, and three bytes of what it asks
 unfoldable pub callAt : List ℕ → ℕ → Call

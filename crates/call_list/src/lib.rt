@@ -1,5 +1,5 @@
 // A list of calls as bytes, four to a call: how many there are, and the call at a number.
-use journal::Call;
+use five_calls::Call;
 ghost use Prim.Native.Nat.{_+_, _*_, _≤_};
 ghost use mathlib.Core.Path.{_≡_};
 ghost use lib.ListN.{length};

@@ -12,13 +12,14 @@ use Rattle.numbers.specs.declared.Answer.{Answer}
 use Rattle.numbers.specs.declared.Answer.the-variants.{Accepted, Refused}
 use Rattle.spectrum.specs.State.{State}
 use Rattle.log_steps.specs.declared.Step.{Step}
-use Rattle.log_steps.specs.Steps.{capacity, putStep, present, placed, intact}
-use Rattle.log_steps.specs.Session.{Session, CallResult, started}
+use Rattle.log_steps.specs.Steps.{capacity, putStep}
+use Rattle.step_places.specs.Pointed.{present, placed, intact}
+use Rattle.session.specs.Session.{Session, CallResult, started}
 use Rattle.log_steps.proofs.Written.{stepAt-below, length-putStep, room-in-log}
 use Rattle.corrections.specs.Corrections.{Correction, byteAt, pairTo, outTo, make, correctionAnswer, stepFor, corrected}
 use Rattle.undo.specs.Undo.{moved, undoOf, redoOf}
-use Rattle.journal.specs.declared.Call.{Call}
-use Rattle.journal.specs.declared.Call.the-variants.{Byte, Pair, Out, Undo, Redo}
+use Rattle.five_calls.specs.declared.Call.{Call}
+use Rattle.five_calls.specs.declared.Call.the-variants.{Byte, Pair, Out, Undo, Redo}
 use Rattle.journal.specs.Journal.{soundness, ifSound, journalCall}
 use Rattle.claim.specs.History.{made, History, ModelResult, joins, modelCorrect, modelUndo, modelRedo, modelCall, noHistory, modelAfter, modelAnswers}
 use Rattle.claim.specs.Claim.{ValidStart, TypedCall, TypedCalls, runAfter, runAnswers, ClaimOf}

@@ -22,10 +22,11 @@ use Rattle.spectrum.specs.State.{State}
 use Rattle.spectrum.specs.Valid.{validOf, quietOf}
 use Rattle.numbers.proofs.Numbers.{refused-not, refuse-not}
 use Rattle.log_steps.specs.declared.Step.{Step}
-use Rattle.log_steps.specs.Steps.{putStep, stepAt, present, placed, intact}
+use Rattle.log_steps.specs.Steps.{putStep, stepAt}
+use Rattle.step_places.specs.Pointed.{present, placed, intact}
 use Rattle.log_steps.proofs.Written.{stepAt-same}
 use Rattle.corrections.specs.Corrections.{Correction, byteAt, pairTo, outTo, placeIn, store, make, romFirst, outFirst, room, correctionAnswer, step, byteStep, stepFor}
-use Rattle.corrections.proofs.Inside.{Inside, place-inside}
+use Rattle.pages.proofs.Inside.{Inside, place-inside}
 use Rattle.claim.specs.Claim.{ValidStart}
 
 -- as wide as the types of the code have it
@@ -93,9 +94,9 @@ pair-model : (m : Machine) (p v : ℕ) → withPair m p v .model ≡ m .model
 unfolding withPair
 pair-model m p v = refl
 
-pair-there : (m : Machine) (p v : ℕ) → p < length (m .pairs) → getD (withPair m p v .pairs) p 0 ≡ v
+pair-set : (m : Machine) (p v : ℕ) → p < length (m .pairs) → getD (withPair m p v .pairs) p 0 ≡ v
 unfolding withPair
-pair-there m p v h = getD-set-same (m .pairs) p v 0 h
+pair-set m p v h = getD-set-same (m .pairs) p v 0 h
 
 out-model : (m : Machine) (v : ℕ) → withOut m v .model ≡ m .model
 unfolding withOut
@@ -164,7 +165,7 @@ pair-holds p v w log k ok b h fits =
       reads = stepAt-same log k _ fits;
       whole = simp (lt-ltb p 12 (omega arith));
       model = pair-model (w .machine) p v;
-      new-there = pair-there (w .machine) p v (omega (arith, ok .typed .count));
+      new-there = pair-set (w .machine) p v (omega (arith, ok .typed .count));
       old-there = refl;
       back = λ j. record { machine = pair-back (w .machine) p v j; memory = w .memory };
       forth = refl;

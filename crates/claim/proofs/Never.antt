@@ -17,10 +17,10 @@ use Rattle.numbers.specs.declared.Answer.the-variants.{Accepted, Refused}
 use Rattle.spectrum.specs.State.{State}
 use Rattle.numbers.specs.Numbers.{numberOf, refusalNumber, refuse}
 use Rattle.log_steps.specs.Steps.{capacity}
-use Rattle.log_steps.specs.Session.{started}
+use Rattle.session.specs.Session.{started}
 use Rattle.corrections.specs.Corrections.{Correction, byteAt, pairTo, outTo, placeIn, romFirst, outFirst, room, correctionAnswer}
-use Rattle.journal.specs.declared.Call.{Call}
-use Rattle.journal.specs.declared.Call.the-variants.{Byte, Pair, Out, Undo, Redo}
+use Rattle.five_calls.specs.declared.Call.{Call}
+use Rattle.five_calls.specs.declared.Call.the-variants.{Byte, Pair, Out, Undo, Redo}
 use Rattle.journal.specs.Journal.{journalCall}
 use Rattle.claim.specs.History.{made, History, joins, modelUndo, modelRedo, modelCall, noHistory, modelAnswers}
 use Rattle.claim.specs.Claim.{ValidStart, TypedCalls, runAnswers}

@@ -9,10 +9,11 @@ use Rattle.slices.specs.Put.{put}
 use Rattle.spectrum.specs.Machine.{withOut}
 use Rattle.spectrum.specs.Valid.{validOf}
 use Rattle.z80file.proofs.Sample.{sample, zero-at, sample-typed, sample-valid}
-use Rattle.journal.specs.declared.Call.{Call}
-use Rattle.journal.specs.declared.Call.the-variants.{Out, Undo, Redo}
+use Rattle.five_calls.specs.declared.Call.{Call}
+use Rattle.five_calls.specs.declared.Call.the-variants.{Out, Undo, Redo}
 use Rattle.spectrum.specs.State.{State}
-use Rattle.log_steps.specs.Steps.{capacity, putStep, stepAt, present, placed, intact}
+use Rattle.log_steps.specs.Steps.{capacity, putStep, stepAt}
+use Rattle.step_places.specs.Pointed.{present, placed, intact}
 use Rattle.corrections.specs.Corrections.{make, correctionAnswer, stepFor, corrected}
 use Rattle.undo.specs.Undo.{undoOf}
 use Rattle.journal.specs.Journal.{soundness, journalCall}
@@ -21,18 +22,18 @@ use Rattle.claim.specs.Wrong.{alwaysRefuses, altersNothing, undoesOnce, 
 
 -- ---- the start
 
-area : List ℕ
-area = replicate 131072 0
+zero-area : List ℕ
+zero-area = replicate 131072 0
 
 w0 : State
-w0 = record { machine = sample; memory = area }
+w0 = record { machine = sample; memory = zero-area }
 
 -- a log with room for four steps
 log : List ℕ
 log = replicate 44 0
 
 fit : ValidStart w0
-unfolding w0 area
+unfolding w0 zero-area
 fit =
     record {
       valid = sample-valid;
@@ -43,8 +44,8 @@ fit =
 
 -- ---- the lists
 
-one : List Call
-one = Out 1 ∷ []
+one-out : List Call
+one-out = Out 1 ∷ []
 
 four : List Call
 four = Out 1 ∷ Out 2 ∷ Undo ∷ Undo ∷ []
@@ -52,8 +53,8 @@ four = Out 1 ∷ Out 2 ∷ Undo ∷ Undo ∷ []
 again : List Call
 again = Out 1 ∷ Undo ∷ Redo ∷ []
 
-wide-one : TypedCalls one
-unfolding one
+wide-one : TypedCalls one-out
+unfolding one-out
 wide-one = (omega arith, tt)
 
 wide-four : TypedCalls four
@@ -68,31 +69,31 @@ wide-again = (omega arith, (tt, (tt, tt)))
 
 -- after OUT 1 none stands, where one does
 pub refuted-refuses : ClaimOf alwaysRefuses → ⊥
-unfolding alwaysRefuses one w0 sample log capacity correctionAnswer
-refuted-refuses h = let e : _≡_ {A = ℕ} 0 1 = h w0 log fit one wide-one .standing in omega arith
+unfolding alwaysRefuses one-out w0 sample log capacity correctionAnswer
+refuted-refuses h = let e : _≡_ {A = ℕ} 0 1 = h w0 log fit one-out wide-one .standing in omega arith
 
 -- after OUT 1 the last OUT is 0, where it is 1
 pub refuted-alters-nothing : ClaimOf altersNothing → ⊥
-unfolding altersNothing one w0 sample log capacity correctionAnswer make withOut
+unfolding altersNothing one-out w0 sample log capacity correctionAnswer make withOut
 refuted-alters-nothing h =
-    let e : _≡_ {A = ℕ} 0 1 = ap (λ (w : State). w .machine .out7ffd) (h w0 log fit one wide-one .state) in
+    let e : _≡_ {A = ℕ} 0 1 = ap (λ (w : State). w .machine .out7ffd) (h w0 log fit one-out wide-one .state) in
     omega arith
 
 -- after OUT 1, OUT 2, undo, undo the last OUT is 1, where it is 0
 pub refuted-undoes-once : ClaimOf undoesOnce → ⊥
-unfolding undoesOnce four w0 sample area log journalCall corrected undoOf soundness validOf capacity correctionAnswer make withOut stepFor putStep put stepAt intact present placed
+unfolding undoesOnce four w0 sample zero-area log journalCall corrected undoOf soundness validOf capacity correctionAnswer make withOut stepFor putStep put stepAt intact present placed
 refuted-undoes-once h =
     let e : _≡_ {A = ℕ} 1 0 = ap (λ (w : State). w .machine .out7ffd) (h w0 log fit four wide-four .state) in
     omega arith
 
 -- after OUT 1 seven stand, where one does
 pub refuted-counts : ClaimOf inventsCounts → ⊥
-unfolding inventsCounts one w0 sample log capacity correctionAnswer
-refuted-counts h = let e : _≡_ {A = ℕ} 7 1 = h w0 log fit one wide-one .standing in omega arith
+unfolding inventsCounts one-out w0 sample log capacity correctionAnswer
+refuted-counts h = let e : _≡_ {A = ℕ} 7 1 = h w0 log fit one-out wide-one .standing in omega arith
 
 -- after OUT 1, undo, redo the last OUT is 0, where it is 1
 pub refuted-redo : ClaimOf redoesNothing → ⊥
-unfolding redoesNothing again w0 sample area log journalCall corrected undoOf soundness validOf capacity correctionAnswer make withOut stepFor putStep put stepAt intact present placed
+unfolding redoesNothing again w0 sample zero-area log journalCall corrected undoOf soundness validOf capacity correctionAnswer make withOut stepFor putStep put stepAt intact present placed
 refuted-redo h =
     let e : _≡_ {A = ℕ} 0 1 = ap (λ (w : State). w .machine .out7ffd) (h w0 log fit again wide-again .state) in
     omega arith

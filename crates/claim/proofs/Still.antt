@@ -11,13 +11,15 @@ use Rattle.numbers.specs.declared.Answer.{Answer}
 use Rattle.numbers.specs.declared.Answer.the-variants.{Accepted, Refused}
 use Rattle.numbers.proofs.Numbers.{refused-not}
 use Rattle.log_steps.specs.declared.Step.{Step}
-use Rattle.log_steps.specs.Steps.{capacity, present, intact}
-use Rattle.log_steps.specs.Session.{Session, CallResult, unchanged, ifAccepted}
+use Rattle.log_steps.specs.Steps.{capacity}
+use Rattle.step_places.specs.Pointed.{present, intact}
+use Rattle.session.specs.Session.{Session, CallResult, unchanged, ifAccepted}
 use Rattle.corrections.specs.Corrections.{Correction, byteAt, pairTo, outTo, correctionAnswer, corrected}
 use Rattle.undo.specs.Undo.{moved, undoOf, redoOf}
-use Rattle.journal.specs.declared.Call.{Call}
-use Rattle.journal.specs.declared.Call.the-variants.{Byte, Pair, Out, Undo, Redo}
-use Rattle.journal.specs.Journal.{soundness, ifSound, called, journalCall}
+use Rattle.five_calls.specs.declared.Call.{Call}
+use Rattle.five_calls.specs.declared.Call.the-variants.{Byte, Pair, Out, Undo, Redo}
+use Rattle.five_calls.specs.FiveCalls.{called}
+use Rattle.journal.specs.Journal.{soundness, ifSound, journalCall}
 
 -- where it is refused, the session is as it was
 abbrev Still : Session → CallResult → Type 0

@@ -7,9 +7,9 @@ use lib.ListN.{length, getD}
 use Rattle.numbers.specs.declared.Answer.{Answer}
 use Rattle.spectrum.specs.State.{State}
 use Rattle.spectrum.specs.Valid.{Typed, validOf}
-use Rattle.journal.specs.declared.Call.{Call}
-use Rattle.journal.specs.declared.Call.the-variants.{Byte, Pair, Out, Undo, Redo}
-use Rattle.log_steps.specs.Session.{Session, CallResult, started}
+use Rattle.five_calls.specs.declared.Call.{Call}
+use Rattle.five_calls.specs.declared.Call.the-variants.{Byte, Pair, Out, Undo, Redo}
+use Rattle.session.specs.Session.{Session, CallResult, started}
 use Rattle.claim.specs.History.{made, noHistory, modelHistory, modelAnswers}
 
 -- a start: a valid machine with 131,072 bytes; the last two are what the types of the code say of both

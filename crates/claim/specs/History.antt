@@ -9,8 +9,8 @@ use Rattle.numbers.specs.declared.Answer.the-variants.{Accepted, Refused}
 use Rattle.spectrum.specs.State.{State}
 use Rattle.log_steps.specs.Steps.{capacity}
 use Rattle.corrections.specs.Corrections.{Correction, byteAt, pairTo, outTo, make, correctionAnswer}
-use Rattle.journal.specs.declared.Call.{Call}
-use Rattle.journal.specs.declared.Call.the-variants.{Byte, Pair, Out, Undo, Redo}
+use Rattle.five_calls.specs.declared.Call.{Call}
+use Rattle.five_calls.specs.declared.Call.the-variants.{Byte, Pair, Out, Undo, Redo}
 
 -- the start with corrections made afresh, first to last: the head of the list is the last one
 abbrev pub made : State → List Correction → State

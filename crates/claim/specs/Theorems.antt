@@ -8,9 +8,9 @@ use Rattle.numbers.specs.declared.Answer.the-variants.{Accepted, Refused}
 use Rattle.spectrum.specs.State.{State}
 use Rattle.numbers.specs.Numbers.{numberOf}
 use Rattle.z80file.specs.Clean.{ReadGives}
-use Rattle.log_steps.specs.Session.{Session, started}
+use Rattle.session.specs.Session.{Session, started}
 use Rattle.corrections.specs.Corrections.{Correction, make}
-use Rattle.journal.specs.declared.Call.{Call}
+use Rattle.five_calls.specs.declared.Call.{Call}
 use Rattle.journal.specs.Journal.{journalCall, openOf}
 use Rattle.claim.specs.History.{made}
 use Rattle.claim.specs.Claim.{ValidStart, TypedCalls, runAfter, runAnswers, ClaimOf}

@@ -4,9 +4,9 @@ use lib.Dec.{eqb}
 use Rattle.slices.specs.Choose.{choose}
 use Rattle.numbers.specs.declared.Refusal.the-variants.{JournalFull}
 use Rattle.numbers.specs.declared.Answer.the-variants.{Accepted}
-use Rattle.journal.specs.declared.Call.{Call}
-use Rattle.journal.specs.declared.Call.the-variants.{Byte, Pair, Out, Undo, Redo}
-use Rattle.log_steps.specs.Session.{Session, CallResult, unchanged}
+use Rattle.five_calls.specs.declared.Call.{Call}
+use Rattle.five_calls.specs.declared.Call.the-variants.{Byte, Pair, Out, Undo, Redo}
+use Rattle.session.specs.Session.{Session, CallResult, unchanged}
 use Rattle.journal.specs.Journal.{journalCall}
 
 -- by the kind of call: a correction, undo, redo

@@ -3,29 +3,24 @@ use Prim.Native.Nat.{ℕ, _+_, _*_, _/_, _%_, _≤_, _<_}
 use mathlib.Core.Path.{_≡_, sym, ap, _∙_}
 use mathlib.Core.List.{List}
 use borrow.Author.Tests.{lt-ltb, le-ltb, eq-eqb, ne-eqb}
-use lib.ListN.{length, set, getD}
+use lib.ListN.{length, getD}
 use Rattle.spectrum.specs.declared.Machine.{Machine}
 use Rattle.pages.specs.declared.Model.{Model}
 use Rattle.pages.specs.declared.Model.the-variants.{K48, K128}
-use Rattle.pages.specs.declared.Place.{Place}
-use Rattle.pages.specs.declared.Place.the-variants.{Rom, Ram}
 use Rattle.numbers.specs.declared.Refusal.{Refusal}
-use Rattle.numbers.specs.declared.Refusal.the-variants.{RomAddress, OutOn48k, PagingLocked, JournalFull, PairNumber}
+use Rattle.numbers.specs.declared.Refusal.the-variants.{OutOn48k, PagingLocked, JournalFull, PairNumber}
 use Rattle.numbers.specs.declared.Answer.{Answer}
 use Rattle.numbers.specs.declared.Answer.the-variants.{Accepted, Refused}
 use Rattle.spectrum.specs.Machine.{withPair, withOut}
-use Rattle.pages.specs.Pages.{placeOf}
 use Rattle.log_steps.specs.declared.Step.{Step}
-use Rattle.log_steps.specs.declared.Counts.{Counts}
-use Rattle.log_steps.specs.declared.Done.{Done}
+use Rattle.session.specs.declared.Counts.{Counts}
+use Rattle.session.specs.declared.Done.{Done}
 use Rattle.log_steps.specs.Steps.{capacity, putStep}
-use Rattle.log_steps.specs.Session.{sessionOn, resultOf}
+use Rattle.session.specs.Session.{sessionOn, resultOf}
 use Rattle.log_steps.specs.Inner.{Ready}
-use Rattle.log_steps.proofs.Pointed.{on}
-use Rattle.log_steps.proofs.Room.{refusedDone, log-room, few-steps}
-use Rattle.corrections.specs.Corrections.{Correction, byteAt, pairTo, outTo, placeIn, store, make, romFirst, outFirst, room, correctionAnswer, step, byteStep, stepFor, corrected}
-use Rattle.corrections.specs.Inner.{byteMade}
-use Rattle.corrections.proofs.Inside.{place-inside}
+use Rattle.session.proofs.Given.{on, refusedDone}
+use Rattle.log_steps.proofs.Room.{log-room, few-steps}
+use Rattle.corrections.specs.Corrections.{Correction, pairTo, outTo, make, outFirst, room, correctionAnswer, step, stepFor, corrected}
 
 -- the end of a correction
 abbrev pub addedDone : Machine → Counts → Done
@@ -37,7 +32,7 @@ added-is m n k r e q = q ∙ ap (λ (x : Counts). record { answer = Accepted; ma
 
 -- ---- corrections
 module _ (m : Machine) (mem log : List ℕ) (n : Counts) (cap : ℕ) (g : Ready mem log n cap) where
-  refused-as : (c : Correction) (why : Refusal) (r : Done) → correctionAnswer cap (on m mem) (n .standing) c ≡ Refused why → r ≡ refusedDone why m n → resultOf r mem log ≡ corrected c (sessionOn m mem log n)
+  pub refused-as : (c : Correction) (why : Refusal) (r : Done) → correctionAnswer cap (on m mem) (n .standing) c ≡ Refused why → r ≡ refusedDone why m n → resultOf r mem log ≡ corrected c (sessionOn m mem log n)
   unfolding corrected
   refused-as c why r e er =
       let e2 : correctionAnswer (capacity (length log)) (on m mem) (n .standing) c ≡ Refused why = ap (λ (k : ℕ). correctionAnswer k (on m mem) (n .standing) c) (sym (g .capped)) ∙ e in
@@ -52,45 +47,11 @@ module _ (m : Machine) (mem log : List ℕ) (n : Counts) (cap : ℕ) (g : Ready 
       let el2 : log′ ≡ putStep log (n .standing) (stepFor c (on m mem)) = el ∙ ap (putStep log (n .standing)) es in
       rw er (sym (simp (e2, ← ew, ← el2)))
 
-  full : cap ≤ n .standing → room cap (n .standing) ≡ Refused JournalFull
+  pub full : cap ≤ n .standing → room cap (n .standing) ≡ Refused JournalFull
   full h = simp (le-ltb (n .standing) cap h)
 
-  open-room : n .standing < cap → room cap (n .standing) ≡ Accepted
+  pub open-room : n .standing < cap → room cap (n .standing) ≡ Accepted
   open-room h = simp (lt-ltb (n .standing) cap h)
-
-  module _ (a v : ℕ) (p : Place) (ep : p ≡ placeOf (m .model) (m .out7ffd) a) where
-    by-place : (x : Answer) → romFirst p x ≡ romFirst (placeIn m a) x
-    by-place x = ap (λ (q : Place). romFirst q x) ep
-
-    pub byte-rom : (r : Done) → p ≡ Rom → r ≡ refusedDone RomAddress m n → resultOf r mem log ≡ corrected (byteAt a v) (sessionOn m mem log n)
-    unfolding correctionAnswer
-    byte-rom r e er = refused-as (byteAt a v) RomAddress r (sym (by-place _) ∙ ap (λ (q : Place). romFirst q (room cap (n .standing))) e) er
-
-    module _ (page offset : ℕ) (e : p ≡ Ram page offset) where
-      pub byte-full : (r : Done) → cap ≤ n .standing → r ≡ refusedDone JournalFull m n → resultOf r mem log ≡ corrected (byteAt a v) (sessionOn m mem log n)
-      unfolding correctionAnswer
-      byte-full r h er = refused-as (byteAt a v) JournalFull r (sym (by-place _) ∙ ap (λ (q : Place). romFirst q (room cap (n .standing))) e ∙ full h) er
-
-      pub byte-page : a < 65536 → page < 8
-      byte-page w = place-inside (m .model) (m .out7ffd) a page offset w (sym ep ∙ e) .small
-
-      pub byte-offset : a < 65536 → offset < 16384
-      byte-offset w = place-inside (m .model) (m .out7ffd) a page offset w (sym ep ∙ e) .low
-
-      pub byte-made : (r : Done) (mem′ log′ : List ℕ) → n .standing < cap → resultOf r mem′ log′ ≡ byteMade page offset v (sessionOn m mem log n) → resultOf r mem′ log′ ≡ corrected (byteAt a v) (sessionOn m mem log n)
-      unfolding corrected correctionAnswer make stepFor
-      byte-made r mem′ log′ h q =
-          let k : romFirst (placeIn m a) (room (capacity (length log)) (n .standing)) ≡ Accepted =
-          sym (by-place _) ∙ ap (λ (x : Place). romFirst x (room (capacity (length log)) (n .standing))) e ∙ ap (λ (c : ℕ). room c (n .standing)) (sym (g .capped)) ∙ open-room h in
-          q ∙ sym (simp k (λ j. record {
-            answer = Accepted;
-            session = record {
-              state = record { machine = m; memory = store ((sym ep ∙ e) j) v mem };
-              log = putStep log (n .standing) (byteStep ((sym ep ∙ e) j) v mem);
-              standing = n .standing + 1;
-              total = n .standing + 1;
-            };
-          }))
 
   pub standing-few : n .standing < cap → n .standing < 4096
   standing-few h = few-steps log cap (n .standing) (g .capped) h
@@ -137,7 +98,3 @@ module _ (m : Machine) (mem log : List ℕ) (n : Counts) (cap : ℕ) (g : Ready 
       unfolding correctionAnswer make stepFor
       out-made m′ old new r log′ h eo en em q =
           accepted-as (outTo v) m′ mem log′ _ r (by-model K128 _ e ∙ simp (ne-eqb (m .out7ffd / 32 % 2) 1 l, lt-ltb (n .standing) cap h)) (ap (λ (x : Machine). on x mem) em) (simp (eo, en)) (q .0) (q .1)
-
-pub byte-done : (m : Machine) (mem log : List ℕ) (n : Counts) (page offset v old new : ℕ) (r : Done) (log′ : List ℕ) → old ≡ getD mem (page * 16384 + offset) 0 → new ≡ v
-    → (r ≡ addedDone m n) × (log′ ≡ putStep log (n .standing) (step 1 page offset old new)) → resultOf r (set mem (page * 16384 + offset) v) log′ ≡ byteMade page offset v (sessionOn m mem log n)
-byte-done m mem log n page offset v old new r log′ eo en q = rw (q .0, q .1, eo, en)

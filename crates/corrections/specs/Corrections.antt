@@ -18,7 +18,7 @@ use Rattle.pages.specs.Pages.{placeOf}
 use Rattle.numbers.specs.Numbers.{refuse}
 use Rattle.log_steps.specs.declared.Step.{Step}
 use Rattle.log_steps.specs.Steps.{capacity, putStep}
-use Rattle.log_steps.specs.Session.{Session, CallResult, ifAccepted}
+use Rattle.session.specs.Session.{Session, CallResult, ifAccepted}
 
 pub data Correction : Type 0 where
   byteAt : ℕ → ℕ → Correction

@@ -4,17 +4,17 @@ use Prim.Native.Nat.{ℕ}
 use mathlib.Core.Path.{_≡_}
 use mathlib.Core.List.{List}
 use Rattle.file_bytes.specs.Files.{readOfBytes, writeOfBytes, ReadsBytes, WritesBytes}
-use Rattle.files_twice.specs.declared.Two.{Two}
+use Rattle.numbers.specs.declared.TwoNumbers.{TwoNumbers}
 
 -- The promise of `read_two`, into areas of n and n′ bytes and headers of k and k′: each read is what reading comes to; into buffers of the
 -- same lengths both end alike.
-pub record ReadsTwo (file : List ℕ) (n k n′ k′ : ℕ) (r : Two) (area head area′ head′ : List ℕ) : Type 0 where
+pub record ReadsTwo (file : List ℕ) (n k n′ k′ : ℕ) (r : TwoNumbers) (area head area′ head′ : List ℕ) : Type 0 where
   pub first : ReadsBytes (readOfBytes file n k) (r .one) area head
   pub second : ReadsBytes (readOfBytes file n′ k′) (r .other) area′ head′
   pub alike : n ≡ n′ → k ≡ k′ → (r .one ≡ r .other) × ((area ≡ area′) × (head ≡ head′))
 
 -- the promise of `write_two`, into outputs of n and n′ bytes
-pub record WritesTwo (head area : List ℕ) (n n′ : ℕ) (r : Two) (out : List ℕ) (size : ℕ) (out′ : List ℕ) (size′ : ℕ) : Type 0 where
+pub record WritesTwo (head area : List ℕ) (n n′ : ℕ) (r : TwoNumbers) (out : List ℕ) (size : ℕ) (out′ : List ℕ) (size′ : ℕ) : Type 0 where
   pub first : WritesBytes (writeOfBytes head area n) (r .one) size out
   pub second : WritesBytes (writeOfBytes head area n′) (r .other) size′ out′
   pub alike : n ≡ n′ → (r .one ≡ r .other) × ((size ≡ size′) × (out ≡ out′))

@@ -81,8 +81,8 @@ record Took (s : List ℕ) (t : DecodedHeader) : Type 0 where
   is : t .machine ≡ machineOf V3 model attachment s
   good : both (validOf (t .machine)) (same s (headerOf (t .machine))) ≡ true
 
-never : false ≡ true → ⊥
-never e = let z : _≡_ {A = ℕ} 0 1 = cc in omega arith
+false-not-true : false ≡ true → ⊥
+false-not-true e = let z : _≡_ {A = ℕ} 0 1 = cc in omega arith
 
 took : (s : List ℕ) → decodedOf s .canonical ≡ true → Took s (decodedOf s)
 unfolding decodedOf
@@ -91,15 +91,15 @@ took s h = go (eqb (length s) 86) refl (mode3 (at s 34)) h
     valid : length s ≡ 86 → (k : Model) (a : Attachment) (m : Machine) (t : Bool) → both (validOf m) (same s (headerOf m)) ≡ t → m ≡ machineOf V3 k a s
         → choose t (record { canonical = true; machine = m }) notCanonical .canonical ≡ true → Took s (choose t (record { canonical = true; machine = m }) notCanonical)
     valid l k a m true e q c = record { model = k; attachment = a; long = l; is = q; good = e }
-    valid l k a m false e q c = absurd (never c)
+    valid l k a m false e q c = absurd (false-not-true c)
 
     mode : length s ≡ 86 → (f : Mode) → decodedMode f s .canonical ≡ true → Took s (decodedMode f s)
-    mode l NotCarried c = absurd (never c)
+    mode l NotCarried c = absurd (false-not-true c)
     mode l (Carried k a) c = valid l k a (machineOf V3 k a s) _ refl refl c
 
     go : (t : Bool) → eqb (length s) 86 ≡ t → (f : Mode) → choose t (decodedMode f s) notCanonical .canonical ≡ true → Took s (choose t (decodedMode f s) notCanonical)
     go true e f c = mode (eqb-true (length s) 86 e) f c
-    go false e f c = absurd (never c)
+    go false e f c = absurd (false-not-true c)
 
 -- bytes that are taken are the header of the machine that they are taken as
 pub decoded-same : (s : List ℕ) → decodedOf s .canonical ≡ true → s ≡ headerOf (decodedOf s .machine)

@@ -1,4 +1,5 @@
 pub mod Back
 pub mod HeadBack
 pub mod Canonical
+pub mod Compared
 pub mod Theorems

@@ -17,17 +17,15 @@ use Rattle.spectrum.specs.Valid.{validOf}
 use Rattle.numbers.proofs.Numbers.{refuse-not}
 use Rattle.z80read.specs.declared.Opened.{Opened}
 use Rattle.z80read.specs.Read.{readOf, Reads}
-use Rattle.log_steps.specs.declared.Counts.{Counts}
-use Rattle.log_steps.specs.declared.Done.{Done}
+use Rattle.session.specs.declared.Counts.{Counts}
+use Rattle.session.specs.declared.Done.{Done}
 use Rattle.log_steps.specs.Steps.{capacity}
-use Rattle.log_steps.specs.Session.{CallResult, sessionOn, resultOf, ifAccepted}
+use Rattle.session.specs.Session.{CallResult, sessionOn, resultOf, ifAccepted}
 use Rattle.log_steps.specs.Inner.{Ready}
-use Rattle.log_steps.proofs.Room.{refusedDone}
-use Rattle.corrections.specs.Corrections.{byteAt, pairTo, outTo, corrected}
-use Rattle.undo.specs.Undo.{undoOf, redoOf}
-use Rattle.journal.specs.declared.Call.{Call}
-use Rattle.journal.specs.declared.Call.the-variants.{Byte, Pair, Out, Undo, Redo}
-use Rattle.journal.specs.Journal.{soundness, called, journalCall, startCounts, openOf}
+use Rattle.session.proofs.Given.{refusedDone}
+use Rattle.five_calls.specs.declared.Call.{Call}
+use Rattle.five_calls.specs.FiveCalls.{called}
+use Rattle.journal.specs.Journal.{soundness, journalCall, startCounts, openOf}
 
 -- 20, 21, 29
 module _ (m : Machine) (area cap standing total : ℕ) (t : Bool) (et : t ≡ validOf m) where
@@ -69,26 +67,9 @@ module _ (m : Machine) (mem log : List ℕ) (n : Counts) (cap : ℕ) (f : Answer
   unfolding journalCall
   not-sound c why r h er = rw er (sym (ap (λ (a : Answer). ifAccepted a (sessionOn m mem log n) (called c (sessionOn m mem log n))) (first ∙ h)))
 
-  is-sound : (c : Call) (x : CallResult) → f ≡ Accepted → x ≡ called c (sessionOn m mem log n) → x ≡ journalCall c (sessionOn m mem log n)
+  pub is-sound : (c : Call) (x : CallResult) → f ≡ Accepted → x ≡ called c (sessionOn m mem log n) → x ≡ journalCall c (sessionOn m mem log n)
   unfolding journalCall
   is-sound c x h q = q ∙ sym (ap (λ (a : Answer). ifAccepted a (sessionOn m mem log n) (called c (sessionOn m mem log n))) (first ∙ h))
-
-  -- a call by its kind
-  module _ (call : Call) (x : CallResult) (h : f ≡ Accepted) where
-    pub byte-call : (a v : ℕ) → call ≡ Byte a v → x ≡ corrected (byteAt a v) (sessionOn m mem log n) → x ≡ journalCall call (sessionOn m mem log n)
-    byte-call a v e q = is-sound call x h (rw e q)
-
-    pub pair-call : (p v : ℕ) → call ≡ Pair p v → x ≡ corrected (pairTo p v) (sessionOn m mem log n) → x ≡ journalCall call (sessionOn m mem log n)
-    pair-call p v e q = is-sound call x h (rw e q)
-
-    pub out-call : (v : ℕ) → call ≡ Out v → x ≡ corrected (outTo v) (sessionOn m mem log n) → x ≡ journalCall call (sessionOn m mem log n)
-    out-call v e q = is-sound call x h (rw e q)
-
-    pub undo-call : call ≡ Undo → x ≡ undoOf (sessionOn m mem log n) → x ≡ journalCall call (sessionOn m mem log n)
-    undo-call e q = is-sound call x h (rw e q)
-
-    pub redo-call : call ≡ Redo → x ≡ redoOf (sessionOn m mem log n) → x ≡ journalCall call (sessionOn m mem log n)
-    redo-call e q = is-sound call x h (rw e q)
 
 -- a file opened
 pub opened-is : (s : List ℕ) (n size : ℕ) (o : Opened) (counts : Counts) (area log : List ℕ) → Reads (readOf s n) o area → (counts ≡ startCounts) × (log ≡ replicate size 0)

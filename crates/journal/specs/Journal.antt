@@ -13,13 +13,11 @@ use Rattle.spectrum.specs.State.{State}
 use Rattle.numbers.specs.Numbers.{refuse}
 use Rattle.spectrum.specs.Valid.{validOf}
 use Rattle.z80read.specs.Read.{ReadResult, readOf}
-use Rattle.log_steps.specs.declared.Counts.{Counts}
+use Rattle.session.specs.declared.Counts.{Counts}
 use Rattle.log_steps.specs.Steps.{capacity}
-use Rattle.log_steps.specs.Session.{Session, CallResult, started, ifAccepted}
-use Rattle.corrections.specs.Corrections.{byteAt, pairTo, outTo, corrected}
-use Rattle.undo.specs.Undo.{undoOf, redoOf}
-use Rattle.journal.specs.declared.Call.{Call}
-use Rattle.journal.specs.declared.Call.the-variants.{Byte, Pair, Out, Undo, Redo}
+use Rattle.session.specs.Session.{Session, CallResult, started, ifAccepted}
+use Rattle.five_calls.specs.declared.Call.{Call}
+use Rattle.five_calls.specs.FiveCalls.{called}
 
 -- "20, 21, 29": what every call looks at first
 unfoldable pub soundness : Machine → ℕ → ℕ → ℕ → ℕ → Answer
@@ -27,13 +25,6 @@ soundness m area cap standing total =
     refuse (not (validOf m)) InvalidMachine
     (refuse (not (eqb area 131072)) MemoryLength
     (refuse (not (both (leb standing total) (leb total cap))) CountsDisagree Accepted))
-
-abbrev pub called : Call → Session → CallResult
-called (Byte address v) d = corrected (byteAt address v) d
-called (Pair p v) d = corrected (pairTo p v) d
-called (Out v) d = corrected (outTo v) d
-called Undo d = undoOf d
-called Redo d = redoOf d
 
 abbrev pub ifSound : Session → CallResult → CallResult
 ifSound d x = ifAccepted (soundness (d .state .machine) (length (d .state .memory)) (capacity (length (d .log))) (d .standing) (d .total)) d x

@@ -1,22 +1,15 @@
 // The correction log's calls: a machine and the log's two numbers go in by value and come back; memory and log are lent. A file opened for
 // correction is read and gets a log.
-use log_steps::Counts;
-use log_steps::Done;
+use five_calls::Call;
 use numbers::Answer;
 use numbers::Refusal;
+use session::Counts;
+use session::Done;
 use spectrum::Machine;
 ghost use mathlib.Core.Path.{_≡_};
 ghost use lib.ListN.{length, replicate};
-ghost use Rattle.log_steps.specs.Session.{sessionOn, resultOf};
+ghost use Rattle.session.specs.Session.{sessionOn, resultOf};
 ghost use Rattle.journal.specs.Journal.{soundness, journalCall, startCounts, openOf};
-
-pub enum Call {
-    Byte(u16, u8),
-    Pair(u8, u16),
-    Out(u8),
-    Undo,
-    Redo,
-}
 
 // A log just started: every byte zero, no correction.
 pub fn start(log: &mut [u8]) -> Counts
@@ -52,15 +45,7 @@ pub fn call_on(m: Machine, memory: &mut [u8], log: &mut [u8], n: Counts, call: C
     let first = soundness_of(m, memory.len(), capacity, n);
     match first {
         Answer::Refused(why) => return Done::refused(why, m, n),
-        Answer::Accepted => match call {
-            Call::Byte(address, v) => {
-                return corrections::correct_byte(m, memory, log, n, capacity, address, v);
-            }
-            Call::Pair(p, v) => return corrections::correct_pair(m, memory, log, n, capacity, p, v),
-            Call::Out(v) => return corrections::correct_out(m, memory, log, n, capacity, v),
-            Call::Undo => return undo::undo(m, memory, log, n, capacity),
-            Call::Redo => return undo::redo(m, memory, log, n, capacity),
-        },
+        Answer::Accepted => return five_calls::sound_call(m, memory, log, n, capacity, call),
     }
 }
 

@@ -12,9 +12,9 @@ use Rattle.numbers.specs.Numbers.{numberOf}
 use Rattle.header_canonical.specs.declared.DecodedHeader.{DecodedHeader}
 use Rattle.header_write.specs.Writing.{headerOf}
 use Rattle.header_canonical.specs.Canonical.{decodedOf}
-use Rattle.log_steps.specs.declared.Done.{Done}
-use Rattle.journal.specs.declared.Call.{Call}
-use Rattle.log_steps.specs.Session.{CallResult, sessionOn, resultOf}
+use Rattle.session.specs.declared.Done.{Done}
+use Rattle.five_calls.specs.declared.Call.{Call}
+use Rattle.session.specs.Session.{CallResult, sessionOn, resultOf}
 use Rattle.journal.specs.Journal.{journalCall}
 use Rattle.journal_bytes.specs.Calls.{buffers, answeredBy, callOn, snapCall, CallLeaves}
 use Rattle.journal_bytes.specs.Inner.{PutBack}

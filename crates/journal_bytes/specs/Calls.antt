@@ -9,8 +9,8 @@ use Rattle.numbers.specs.Numbers.{numberOf}
 use Rattle.header_canonical.specs.declared.DecodedHeader.{DecodedHeader}
 use Rattle.header_write.specs.Writing.{headerOf}
 use Rattle.header_canonical.specs.Canonical.{decodedOf, badHeader}
-use Rattle.journal.specs.declared.Call.{Call}
-use Rattle.log_steps.specs.Session.{Session, CallResult}
+use Rattle.five_calls.specs.declared.Call.{Call}
+use Rattle.session.specs.Session.{Session, CallResult}
 use Rattle.journal.specs.Journal.{journalCall}
 
 -- all that a call is lent

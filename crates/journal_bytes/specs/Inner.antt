@@ -4,7 +4,7 @@ use mathlib.Core.Path.{_≡_}
 use mathlib.Core.List.{List}
 use Rattle.numbers.specs.Numbers.{numberOf}
 use Rattle.header_write.specs.Writing.{headerOf}
-use Rattle.log_steps.specs.declared.Done.{Done}
+use Rattle.session.specs.declared.Done.{Done}
 
 -- what is put back of a call's answer
 pub record PutBack (d : Done) (r : ℕ) (h : List ℕ) (s t : ℕ) : Type 0 where

@@ -1,10 +1,10 @@
 // The calls of the correction log over bytes: the machine crosses as its header. A call takes the header apart, is made by value and puts
 // it back.
-use journal::Call;
-use log_steps::Counts;
-use log_steps::Done;
+use five_calls::Call;
 use numbers::Answer;
 use numbers::Refusal;
+use session::Counts;
+use session::Done;
 ghost use mathlib.Core.Path.{_≡_};
 ghost use lib.ListN.{length};
 ghost use Rattle.journal_bytes.specs.Calls.{buffers, snapCall, CallLeaves, LogStarts};

@@ -1,19 +1,20 @@
--- Steps that lie in the log, and what a call gives that is refused.
-use Prim.Native.Nat.{ℕ, _+_, _-_, _*_, _≤_, _<_}
+-- How many steps a log holds, and steps that lie in it.
+use Prim.Native.Nat.{ℕ, _+_, _-_, _*_, _/_, _≤_, _<_}
 use native.Mathlib.Omega.{arith}
 use mathlib.Core.Path.{_≡_}
 use mathlib.Core.List.{List}
 use lib.ListN.{length}
-use Rattle.spectrum.specs.declared.Machine.{Machine}
-use Rattle.numbers.specs.declared.Refusal.{Refusal}
-use Rattle.numbers.specs.declared.Answer.the-variants.{Refused}
-use Rattle.log_steps.specs.declared.Counts.{Counts}
-use Rattle.log_steps.specs.declared.Done.{Done}
+use Rattle.session.specs.declared.Counts.{Counts}
 use Rattle.log_steps.specs.Steps.{capacity}
 use Rattle.log_steps.specs.Inner.{Ready}
 
-abbrev pub refusedDone : Refusal → Machine → Counts → Done
-refusedDone why m n = record { answer = Refused why; machine = m; counts = n }
+pub capacity-small : (log : List ℕ) → length log / 11 ≤ 4096 → length log / 11 ≡ capacity (length log)
+unfolding capacity
+capacity-small log h = omega arith
+
+pub capacity-most : (log : List ℕ) → 4096 < length log / 11 → 4096 ≡ capacity (length log)
+unfolding capacity
+capacity-most log h = omega arith
 
 pub log-room : (log : List ℕ) (cap k : ℕ) → cap ≡ capacity (length log) → k < cap → k * 11 + 11 ≤ length log
 unfolding capacity

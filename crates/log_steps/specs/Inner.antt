@@ -3,7 +3,7 @@ use Prim.Native.Nat.{ℕ, _≤_}
 use mathlib.Core.Path.{_≡_}
 use mathlib.Core.List.{List}
 use lib.ListN.{length}
-use Rattle.log_steps.specs.declared.Counts.{Counts}
+use Rattle.session.specs.declared.Counts.{Counts}
 use Rattle.log_steps.specs.Steps.{capacity}
 
 -- what a call is lent once 20, 21 and 29 are behind it

@@ -38,6 +38,12 @@ pub enum Answer {
     Refused(Refusal),
 }
 
+// The numbers of two calls.
+pub struct TwoNumbers {
+    pub one: u32,
+    pub other: u32,
+}
+
 // The number of an answer.
 pub fn number(answer: Answer) -> u32
     ensures { λ r. ⌜ r ≡ numberOf answer ⌝ }

@@ -7,10 +7,10 @@ use Rattle.numbers.specs.Numbers.{numberOf}
 use Rattle.header_canonical.specs.declared.DecodedHeader.{DecodedHeader}
 use Rattle.header_write.specs.Writing.{headerOf}
 use Rattle.header_canonical.proofs.Canonical.{decoded-back}
-use Rattle.journal.specs.declared.Call.{Call}
+use Rattle.five_calls.specs.declared.Call.{Call}
 use Rattle.spectrum.specs.State.{State}
 use Rattle.claim.specs.History.{noHistory, modelAfter, modelAnswers}
-use Rattle.log_steps.specs.Session.{Session, CallResult, started}
+use Rattle.session.specs.Session.{Session, CallResult, started}
 use Rattle.journal.specs.Journal.{journalCall}
 use Rattle.claim.specs.Claim.{ValidStart, TypedCalls, runAfter, runAnswers}
 use Rattle.claim.proofs.Claim.{claim, start-after}
@@ -26,16 +26,16 @@ call-is f d g =
     ap (λ (t : DecodedHeader). onDecoded t f (sessionBytes d)) (decoded-back m (headerOf m) (record { valid = g .valid; typed = g .typed; is = refl }))
 
 -- every list of calls from here leaves a valid machine
-abbrev Ahead : Session → Type 0
-Ahead d = (calls : List Call) → TypedCalls calls → ValidStart (runAfter journalCall d calls .state)
+abbrev StartsAfter : Session → Type 0
+StartsAfter d = (calls : List Call) → TypedCalls calls → ValidStart (runAfter journalCall d calls .state)
 
-run-is : (calls : List Call) (d : Session) → TypedCalls calls → Ahead d → runBuffers snapCall (sessionBytes d) calls ≡ sessionBytes (runAfter journalCall d calls)
+run-is : (calls : List Call) (d : Session) → TypedCalls calls → StartsAfter d → runBuffers snapCall (sessionBytes d) calls ≡ sessionBytes (runAfter journalCall d calls)
 run-is [] d wide g = refl
 run-is (c ∷ cs) d wide g =
     ap (λ (x : Answered). runBuffers snapCall (x .left) cs) (call-is (journalCall c) d (g [] tt))
     ∙ run-is cs (journalCall c d .session) (wide .1) (λ p w. g (c ∷ p) (wide .0, w))
 
-numbers-are : (calls : List Call) (d : Session) → TypedCalls calls → Ahead d → runNumbers snapCall (sessionBytes d) calls ≡ map numberOf (runAnswers journalCall d calls)
+numbers-are : (calls : List Call) (d : Session) → TypedCalls calls → StartsAfter d → runNumbers snapCall (sessionBytes d) calls ≡ map numberOf (runAnswers journalCall d calls)
 numbers-are [] d wide g = refl
 numbers-are (c ∷ cs) d wide g =
     ap (λ (x : Answered). x .answer ∷ runNumbers snapCall (x .left) cs) (call-is (journalCall c) d (g [] tt))
@@ -46,7 +46,7 @@ pub byte-claim : ByteClaimOf snapCall
 byte-claim start size ok calls wide =
     let fresh : List ℕ = replicate size 0 in
     let d = started start fresh in
-    let ahead : Ahead d = start-after start fresh ok in
+    let ahead : StartsAfter d = start-after start fresh ok in
     let r = run-is calls d wide ahead in
     let q = claim start fresh ok calls wide in
     let long : length fresh ≡ size = length-replicate {A = ℕ} size 0 in

@@ -1,4 +1,3 @@
 pub mod Claim
 pub mod Turns
-pub mod Opened
 pub mod Theorems

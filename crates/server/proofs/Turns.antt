@@ -12,10 +12,10 @@ use Rattle.spectrum.specs.declared.Machine.{Machine}
 use Rattle.header_write.specs.Writing.{headerOf, HeaderFor}
 use Rattle.header_canonical.specs.Canonical.{decodedOf, badHeader}
 use Rattle.header_canonical.proofs.Canonical.{decoded-is}
-use Rattle.journal.specs.declared.Call.{Call}
+use Rattle.five_calls.specs.declared.Call.{Call}
 use Rattle.spectrum.specs.State.{State}
 use Rattle.claim.specs.History.{modelHistory}
-use Rattle.log_steps.specs.Session.{Session, CallResult}
+use Rattle.session.specs.Session.{Session, CallResult}
 use Rattle.claim.specs.Claim.{ValidStart}
 use Rattle.call_list.specs.CallList.{callAt, callsFrom, callCount, callsIn}
 use Rattle.call_list.proofs.Decode.{calls-more, typed-all}
@@ -39,21 +39,21 @@ answer-small f b = go (decodedOf (b .header) .canonical)
 pub number-fits : (f : Session → CallResult) (b : Buffers) (r : ℕ) (x : Buffers) → CallLeaves (callOn f b) r x → r < 256
 number-fits f b r x e = omega (arith, e .answer, answer-small f b)
 
-pub record Going (calls : List ℕ) (n : ℕ) (x₀ x : Buffers) (numbers₀ numbers : List ℕ) (i : ℕ) : Type 0 where
+pub record CallsSoFar (calls : List ℕ) (n : ℕ) (x₀ x : Buffers) (numbers₀ numbers : List ℕ) (i : ℕ) : Type 0 where
   pub reach : i ≤ n
   pub fits : n ≤ length numbers₀
   pub long : length numbers ≡ length numbers₀
   pub rest : runBuffers snapCall x (callsFrom calls i (n - i)) ≡ runBuffers snapCall x₀ (callsFrom calls 0 n)
   pub said : take i numbers ++ runNumbers snapCall x (callsFrom calls i (n - i)) ≡ runNumbers snapCall x₀ (callsFrom calls 0 n)
 
-pub going-none : (calls : List ℕ) (n : ℕ) (x : Buffers) (numbers : List ℕ) → n ≤ length numbers → Going calls n x x numbers numbers 0
-going-none calls n x numbers h =
+pub calls-begin : (calls : List ℕ) (n : ℕ) (x : Buffers) (numbers : List ℕ) → n ≤ length numbers → CallsSoFar calls n x x numbers numbers 0
+calls-begin calls n x numbers h =
     let q : n - 0 ≡ n = omega arith in
     record { reach = omega arith; fits = h; long = refl; rest = rw q; said = rw q }
 
 pub going-more : (calls : List ℕ) (n : ℕ) (x₀ x : Buffers) (numbers₀ numbers : List ℕ) (i : ℕ) (call : Call) (r : ℕ) (x′ : Buffers)
-    → Going calls n x₀ x numbers₀ numbers i → i < n → call ≡ callAt calls i → CallLeaves (snapCall call x) r x′
-    → Going calls n x₀ x′ numbers₀ (set numbers i r) (i + 1)
+    → CallsSoFar calls n x₀ x numbers₀ numbers i → i < n → call ≡ callAt calls i → CallLeaves (snapCall call x) r x′
+    → CallsSoFar calls n x₀ x′ numbers₀ (set numbers i r) (i + 1)
 going-more calls n x₀ x numbers₀ numbers i call r x′ g lt ec e =
     let left = callsFrom calls (i + 1) (n - (i + 1)) in
     let e2 : record { answer = r; left = x′ } ≡ snapCall (callAt calls i) x = (λ k. record { answer = e .answer k; left = e .left k }) ∙ ap (λ (c : Call). snapCall c x) ec in
@@ -73,7 +73,7 @@ going-more calls n x₀ x numbers₀ numbers i call r x′ g lt ec e =
     }
 
 pub going-done : (calls : List ℕ) (n : ℕ) (x₀ x : Buffers) (numbers₀ numbers numbers′ : List ℕ) (i : ℕ)
-    → Going calls n x₀ x numbers₀ numbers i → n ≤ i → n ≡ callCount calls (length numbers₀)
+    → CallsSoFar calls n x₀ x numbers₀ numbers i → n ≤ i → n ≡ callCount calls (length numbers₀)
     → numbers′ ≡ take n numbers ++ replicate (length numbers - n) 0 → RanBytes calls (length numbers₀) x₀ x numbers′
 going-done calls n x₀ x numbers₀ numbers numbers′ i g h en e =
     let z : n - i ≡ 0 = omega arith in

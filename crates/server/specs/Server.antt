@@ -8,14 +8,11 @@ use Rattle.spectrum.specs.declared.Machine.{Machine}
 use Rattle.numbers.specs.Numbers.{numberOf}
 use Rattle.header_write.specs.Writing.{headerOf, HeaderFor}
 use Rattle.header_canonical.specs.Canonical.{badHeader}
-use Rattle.journal.specs.declared.Call.{Call}
+use Rattle.five_calls.specs.declared.Call.{Call}
 use Rattle.spectrum.specs.State.{State}
 use Rattle.claim.specs.History.{History, made, noHistory, modelHistory, modelAnswers}
 use Rattle.claim.specs.Claim.{ValidStart, TypedCalls}
-use Rattle.z80read.specs.Read.{readOf}
 use Rattle.call_list.specs.CallList.{callCount, callsIn, numbersIn}
-use Rattle.journal.specs.Journal.{startOf}
-use Rattle.file_bytes.specs.Files.{readOfBytes}
 use Rattle.journal_bytes.specs.Calls.{Buffers, buffers, Answered, snapCall}
 
 -- buffers after a list of calls, each made by f on what the last one left, and the numbers answered
@@ -72,10 +69,3 @@ pub record Serves (head area log encoded : List ℕ) (room r : ℕ) (x : Buffers
   pub ran : RanBytes encoded room (startedBuffers head area (length log)) x numbers
   pub claim : (m : Machine) → HeaderFor m head → length area ≡ 131072 → ModelBytes (record { machine = m; memory = area }) (length log) encoded room x numbers
   pub not-ours : ((m : Machine) → HeaderFor m head → ⊥) → Untouched encoded room (startedBuffers head area (length log)) x numbers
-
--- The promise of `serve_file`, with an area of n bytes and a header of k: the number of the read, and every call on what it left; where that
--- number is 0, all is the model's from the machine and memory that the file gives.
-pub record ServesFile (file : List ℕ) (n k : ℕ) (log encoded : List ℕ) (room r : ℕ) (x : Buffers) (numbers : List ℕ) : Type 0 where
-  pub answer : r ≡ readOfBytes file n k .answer
-  pub ran : RanBytes encoded room (startedBuffers (readOfBytes file n k .header) (readOfBytes file n k .area) (length log)) x numbers
-  pub claim : r ≡ 0 → ModelBytes (startOf (readOf file n)) (length log) encoded room x numbers

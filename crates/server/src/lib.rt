@@ -1,7 +1,7 @@
 // Demand 3 of the functions that a C program calls: a list of calls, as bytes, each made by the exported function.
 ghost use lib.ListN.{length};
 ghost use Rattle.journal_bytes.specs.Calls.{buffers};
-ghost use Rattle.server.specs.Server.{Serves, ServesFile};
+ghost use Rattle.server.specs.Server.{Serves};
 
 // A log is started and every call of a list made, each on the bytes that the last one left. From the header of any valid machine, an
 // area of 131,072 bytes and a log of any length, all is the model's: this contract is the claim.
@@ -27,23 +27,4 @@ pub fn serve(
     }
     slices::clear_from(numbers, n);
     n
-}
-
-// A file read by the exported function, then every call of a list: where the file is accepted, all is the model's from the machine and
-// memory that it gives.
-pub fn serve_file(
-    file: &[u8],
-    head: &mut [u8],
-    area: &mut [u8],
-    log: &mut [u8],
-    standing: &mut u64,
-    total: &mut u64,
-    calls: &[u8],
-    numbers: &mut [u8],
-) -> u32
-    ensures { λ r. ⌜ ServesFile (now (file .entry)) (length (now (area .entry))) (length (now (head .entry))) (now (log .entry)) (now (calls .entry)) (length (now (numbers .entry))) r (buffers (now (head .exit)) (now (area .exit)) (now (log .exit)) (now (standing .exit)) (now (total .exit))) (now (numbers .exit)) ⌝ }
-{
-    let answer = snapshot::snap_z80_read(file, area, head);
-    serve(head, area, log, standing, total, calls, numbers);
-    answer
 }

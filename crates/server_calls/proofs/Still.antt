@@ -9,8 +9,8 @@ use Rattle.numbers.specs.declared.Answer.the-variants.{Accepted, Refused}
 use Rattle.numbers.specs.Numbers.{numberOf}
 use Rattle.header_canonical.specs.Canonical.{decodedOf, badHeader}
 use Rattle.header_canonical.proofs.Canonical.{decoded-same}
-use Rattle.journal.specs.declared.Call.{Call}
-use Rattle.log_steps.specs.Session.{Session}
+use Rattle.five_calls.specs.declared.Call.{Call}
+use Rattle.session.specs.Session.{Session}
 use Rattle.journal.specs.Journal.{journalCall}
 use Rattle.claim.proofs.Still.{still}
 use Rattle.journal_bytes.specs.Calls.{Buffers, buffers, sessionFor, sessionBytes, answeredBy, callOn, snapCall}

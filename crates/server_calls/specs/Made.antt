@@ -1,7 +1,7 @@
 -- One call by the exported function.
 use Prim.Native.Nat.{ℕ}
 use mathlib.Core.Path.{_≡_}
-use Rattle.journal.specs.declared.Call.{Call}
+use Rattle.five_calls.specs.declared.Call.{Call}
 use Rattle.journal_bytes.specs.Calls.{Buffers, snapCall, CallLeaves}
 
 -- the promise of `call_made`: every number and byte is the definition's; refused, every buffer and both numbers are as they were

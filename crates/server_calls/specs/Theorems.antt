@@ -1,6 +1,6 @@
 -- What is claimed of a call over bytes beyond the function's contract.
 use mathlib.Core.Path.{_≡_}
-use Rattle.journal.specs.declared.Call.{Call}
+use Rattle.five_calls.specs.declared.Call.{Call}
 use Rattle.journal_bytes.specs.Calls.{Buffers, snapCall}
 
 pub record Theorems : Type 0 where

@@ -1,5 +1,5 @@
 // One call of the correction log, by the function that a C program calls.
-use journal::Call;
+use five_calls::Call;
 ghost use Rattle.journal_bytes.specs.Calls.{buffers};
 ghost use Rattle.server_calls.specs.Made.{CallMade};
 

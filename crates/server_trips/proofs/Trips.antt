@@ -1,10 +1,10 @@
--- A file written and read back, and a file read and written, over bytes.
-use Prim.Native.Nat.{ℕ, _-_, _≤_, _<_}
+-- A file written and read back, over bytes.
+use Prim.Native.Nat.{ℕ, _-_, _≤_}
 use native.Mathlib.Omega.{arith}
 use mathlib.Core.Path.{_≡_, refl, sym, ap, subst, _∙_}
 use mathlib.Core.Bool.{Bool, true, false}
 use mathlib.Core.List.{List}
-use lib.ListN.{length, getD, take, drop, replicate}
+use lib.ListN.{length, take, drop, replicate}
 use lib.Seq.{take-at}
 use Rattle.slices.specs.Choose.{choose}
 use Rattle.spectrum.specs.declared.Machine.{Machine}
@@ -13,16 +13,13 @@ use Rattle.header_write.specs.Writing.{HeaderFor}
 use Rattle.header_canonical.specs.Canonical.{decodedOf, badHeader}
 use Rattle.header_canonical.proofs.Canonical.{decoded-back}
 use Rattle.z80read.specs.Read.{readOf}
-use Rattle.z80read.proofs.Typed.{read-typed}
-use Rattle.z80read.proofs.Lengths.{read-most}
 use Rattle.z80write.specs.Written.{fileOf, acceptedWrite, writtenOf}
 use Rattle.z80write.proofs.Whole.{room}
-use Rattle.z80write.proofs.Longest.{file-most}
 use Rattle.z80file.specs.Clean.{Clean}
-use Rattle.z80file.proofs.File.{file-back, length-inside, read-start}
+use Rattle.z80file.proofs.File.{file-back, length-inside}
 use Rattle.file_bytes.specs.Files.{ReadBytes, WriteBytes, readInBytes, readOfBytes, writtenInBytes, writeDecoded, writeOfBytes, ReadsBytes, WritesBytes}
-use Rattle.file_bytes.proofs.Accepted.{read-0, write-decoded-as}
-use Rattle.server_trips.specs.Trips.{WritesThenReads, ReadsThenWrites}
+use Rattle.file_bytes.proofs.Accepted.{write-decoded-as}
+use Rattle.server_trips.specs.Trips.{WritesThenReads}
 
 read-whole : (file : List ℕ) → readOfBytes file 131072 86 ≡ readInBytes (readOf file 131072)
 unfolding readOfBytes
@@ -43,7 +40,7 @@ size-fits head area n w size out p = subst (λ (k : ℕ). k ≤ n) (sym (p .size
         fit false = omega arith
 
 -- what is written of a valid machine's header and a clean area reads as both
-trip : (m : Machine) (head area : List ℕ) (n w size : ℕ) (out : List ℕ) → HeaderFor m head → Clean (m .model) area → length (fileOf m area) ≤ n → WritesBytes (writeOfBytes head area n) w size out
+pub trip : (m : Machine) (head area : List ℕ) (n w size : ℕ) (out : List ℕ) → HeaderFor m head → Clean (m .model) area → length (fileOf m area) ≤ n → WritesBytes (writeOfBytes head area n) w size out
     → (w ≡ 0) × (readOfBytes (take size out) 131072 86 ≡ record { answer = 0; area = area; header = head })
 trip m head area n w size out f c h p =
     let file = fileOf m area in
@@ -75,22 +72,4 @@ writes-then-reads head area n k l w r size out back-area back-head p g =
             area-same = q .area ∙ ap (λ (x : ReadBytes). x .area) e;
             head-same = q .header ∙ ap (λ (x : ReadBytes). x .header) e;
           };
-    }
-
-pub reads-then-writes : (file : List ℕ) (n k l r w size : ℕ) (area head out : List ℕ) → ((i : ℕ) → getD file i 0 < 256) → ReadsBytes (readOfBytes file n k) r area head
-    → WritesBytes (writeOfBytes head area l) w size out → ReadsThenWrites file n k l (record { written = w; read = r }) area head out size
-reads-then-writes file n k l r w size area head out bytes p g =
-    record {
-      first = p;
-      then-written = g;
-      rewritten = λ e h.
-          let q = read-0 file n k (sym (p .answer) ∙ e) in
-          let o = readOf file n in
-          let s = read-start file n (q .0) in
-          let ea : area ≡ o .memory = p .area ∙ ap (λ (x : ReadBytes). x .area) (q .1) in
-          let f : HeaderFor (o .machine) head
-          = record { valid = s .valid; typed = read-typed file n bytes (q .0); is = p .header ∙ ap (λ (x : ReadBytes). x .header) (q .1) } in
-          let t = trip (o .machine) head area l w size out f (subst (Clean (o .machine .model)) (sym ea) (s .clean)) (omega (arith, file-most (o .machine) area (f .typed))) g in
-          record { written = t .0; again = t .1 };
-      most = λ e. read-most file n bytes (read-0 file n k (sym (p .answer) ∙ e) .0);
     }

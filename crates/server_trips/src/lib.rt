@@ -1,6 +1,6 @@
-// Demand 2 of the functions that a C program calls: a file written and read back, and a file read and written.
+// Demand 2 of the functions that a C program calls: a file written and read back.
 ghost use lib.ListN.{length};
-ghost use Rattle.server_trips.specs.Trips.{WritesThenReads, ReadsThenWrites};
+ghost use Rattle.server_trips.specs.Trips.{WritesThenReads};
 
 // The numbers of a write and of a read.
 pub struct Trip {
@@ -25,23 +25,5 @@ pub fn write_then_read(
     Trip {
         written: wrote,
         read: back,
-    }
-}
-
-// A file read, and what it gave written.
-pub fn read_then_write(
-    file: &[u8],
-    area: &mut [u8],
-    head: &mut [u8],
-    out: &mut [u8],
-    size: &mut u64,
-) -> Trip
-    ensures { λ r. ⌜ ReadsThenWrites (now (file .entry)) (length (now (area .entry))) (length (now (head .entry))) (length (now (out .entry))) r (now (area .exit)) (now (head .exit)) (now (out .exit)) (now (size .exit)) ⌝ }
-{
-    let read = snapshot::snap_z80_read(file, area, head);
-    let written = snapshot::snap_z80_write(head, area, out, size);
-    Trip {
-        written: written,
-        read: read,
     }
 }

@@ -18,6 +18,14 @@ pub both-true : (a b : Bool) → both a b ≡ true → (a ≡ true) × (b ≡ tr
 both-true true b h = (refl, h)
 both-true false b h = let z : _≡_ {A = ℕ} 0 1 = cc in absurd (omega arith)
 
+pub both-end : (t : Bool) → both t true ≡ t
+both-end true = refl
+both-end false = refl
+
+pub both-again : (t u v : Bool) → both (both t u) v ≡ both t (both u v)
+both-again true u v = refl
+both-again false u v = refl
+
 -- the test is equality
 pub same-refl : (xs : List ℕ) → same xs xs ≡ true
 same-refl [] = refl

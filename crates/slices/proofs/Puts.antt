@@ -42,13 +42,13 @@ unfolding put
 put-zero d l n q = ap (λ (m : ℕ). l ++ drop m d) (zero-add (length l) ∙ q)
 
 -- a part of a slice, copied over an array of its length, is the array
-over : (n : ℕ) (p t : List ℕ) → length p ≡ n → length t ≡ n → take (length p) p ++ drop (length p) t ≡ p
-over n p t h k = rw (take-length, drop-of-length-le t {i = length p} (omega arith), append-nil)
+over-all : (n : ℕ) (p t : List ℕ) → length p ≡ n → length t ≡ n → take (length p) p ++ drop (length p) t ≡ p
+over-all n p t h k = rw (take-length, drop-of-length-le t {i = length p} (omega arith), append-nil)
 
 pub part-copied : (n from : ℕ) (s t : List ℕ) → from + n ≤ length s → length t ≡ n
     → take (length (take (from + n - from) (drop from s))) (take (from + n - from) (drop from s)) ++ drop (length (take (from + n - from) (drop from s))) t ≡ take n (drop from s)
 part-copied n from s t h k =
-    rw (add-sub-cancel-left from n) (over n (take n (drop from s)) t (length-take-le n (drop from s) (simp length-drop (omega arith))) k)
+    rw (add-sub-cancel-left from n) (over-all n (take n (drop from s)) t (length-take-le n (drop from s) (simp length-drop (omega arith))) k)
 
 -- what stands before and in a piece that was written
 pub take-put : (d p : List ℕ) (i : ℕ) → i ≤ length d → take (i + length p) (put d i p) ≡ take i d ++ p

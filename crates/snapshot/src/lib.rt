@@ -1,10 +1,21 @@
 // The functions that a C program calls, with numbers and byte buffers: see include/snapshot.h.
-use journal::Call;
+use five_calls::Call;
+ghost use mathlib.Core.Path.{_≡_};
 ghost use lib.ListN.{length};
-ghost use Rattle.journal.specs.declared.Call.the-variants.{Byte, Pair, Out, Undo, Redo};
+ghost use Rattle.five_calls.specs.declared.Call.the-variants.{Byte, Pair, Out, Undo, Redo};
 ghost use Rattle.file_bytes.specs.Files.{readOfBytes, ReadsBytes, writeOfBytes, WritesBytes};
 ghost use Rattle.journal_bytes.specs.Calls.{buffers, snapCall, CallLeaves, LogStarts};
 ghost use Rattle.view_bytes.specs.Views.{Shows, showOf};
+ghost use Rattle.machine_bytes.specs.Looks.{modelOf, TellsModel, pairOf, TellsPair, addressOf, TellsPlace};
+ghost use Rattle.version_number.specs.Version.{version};
+
+// 10000 * major + 100 * minor + patch.
+#[no_mangle]
+pub extern "C" fn snap_version() -> u32
+    ensures { λ r. ⌜ r ≡ version ⌝ }
+{
+    version_number::current()
+}
 
 // A .Z80 file into an area of 131,072 bytes and a header of 86.
 #[no_mangle]
@@ -36,6 +47,36 @@ pub extern "C" fn snap_view(
     ensures { λ r. ⌜ Shows (showOf (now (head .entry)) (length (now (rom .entry))) (length (now (area .entry))) page) r (now (in_rom .exit)) (now (start .exit)) (now (span .exit)) ⌝ }
 {
     view_bytes::view(head, rom, area, page, in_rom, start, span)
+}
+
+// Which model, and what is attached to it.
+#[no_mangle]
+pub extern "C" fn snap_model(head: &[u8], kind: &mut u8, attachment: &mut u8) -> u32
+    ensures { λ r. ⌜ TellsModel (modelOf (now (head .entry))) r (now (kind .exit)) (now (attachment .exit)) ⌝ }
+{
+    machine_bytes::model(head, kind, attachment)
+}
+
+// A register pair's value.
+#[no_mangle]
+pub extern "C" fn snap_pair(head: &[u8], number: u8, value: &mut u16) -> u32
+    ensures { λ r. ⌜ TellsPair (pairOf (now (head .entry)) number) r (now (value .exit)) ⌝ }
+{
+    machine_bytes::pair(head, number, value)
+}
+
+// Where an address leads as paging is now.
+#[no_mangle]
+pub extern "C" fn snap_place(
+    head: &[u8],
+    address: u16,
+    in_rom: &mut u8,
+    page: &mut u8,
+    offset: &mut u16,
+) -> u32
+    ensures { λ r. ⌜ TellsPlace (addressOf (now (head .entry)) address) r (now (in_rom .exit)) (now (page .exit)) (now (offset .exit)) ⌝ }
+{
+    machine_bytes::place(head, address, in_rom, page, offset)
 }
 
 // A log just started.

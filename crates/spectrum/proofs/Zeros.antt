@@ -1,4 +1,4 @@
--- Zeros passed over: what is left decides.
+-- Bytes looked at one by one: whether all are 0.
 use Prim.Native.Nat.{ℕ, zero, suc, _+_, _≤_, _<_}
 use native.Mathlib.Numerals.{add-one}
 use native.Mathlib.Omega.{arith}
@@ -10,29 +10,26 @@ use lib.Seq.{drop-cons}
 use lib.Dec.{eqb}
 use borrow.Author.Tests.{eq-eqb, ne-eqb, eqb-true}
 use Rattle.slices.specs.Choose.{both}
-use Rattle.slices.proofs.Chosen.{both-true}
+use Rattle.slices.proofs.Chosen.{both-true, both-end, both-again}
 use Rattle.spectrum.specs.Valid.{zeros}
 
--- the first i bytes of s are 0
-pub record Passed (s : List ℕ) (i : ℕ) : Type 0 where
+-- i bytes of s were looked at, and t says whether all of them are 0
+pub record ZeroSoFar (s : List ℕ) (i : ℕ) (t : Bool) : Type 0 where
   pub reach : i ≤ length s
-  pub same : zeros (drop i s) ≡ zeros s
+  pub so-far : both t (zeros (drop i s)) ≡ zeros s
 
-pub passed-none : (s : List ℕ) → Passed s 0
-passed-none s = record { reach = omega arith; same = refl }
+pub looked-none : (s : List ℕ) → ZeroSoFar s 0 true
+looked-none s = record { reach = omega arith; so-far = refl }
 
-module _ (s : List ℕ) (i : ℕ) (g : Passed s i) where
+module _ (s : List ℕ) (i : ℕ) (t : Bool) (g : ZeroSoFar s i t) where
   split : i < length s → zeros (drop i s) ≡ both (eqb (getD s i 0) 0) (zeros (drop (i + 1) s))
   split h = ap zeros (drop-cons s i 0 h ∙ ap (λ (k : ℕ). getD s i 0 ∷ drop k s) (sym (add-one i)))
 
-  pub passed-more : i < length s → getD s i 0 ≡ 0 → Passed s (i + 1)
-  passed-more h e = record { reach = omega arith; same = sym (split h ∙ ap (λ (t : Bool). both t (zeros (drop (i + 1) s))) (eq-eqb (getD s i 0) 0 e)) ∙ g .same }
+  pub looked-more : (u : Bool) → i < length s → u ≡ both t (eqb (getD s i 0) 0) → ZeroSoFar s (i + 1) u
+  looked-more u h e = record { reach = omega arith; so-far = ap (λ (v : Bool). both v (zeros (drop (i + 1) s))) e ∙ both-again t (eqb (getD s i 0) 0) (zeros (drop (i + 1) s)) ∙ ap (both t) (sym (split h)) ∙ g .so-far }
 
-  pub passed-other : i < length s → (getD s i 0 ≡ 0 → ⊥) → false ≡ zeros s
-  passed-other h e = sym (ap (λ (t : Bool). both t (zeros (drop (i + 1) s))) (ne-eqb (getD s i 0) 0 e)) ∙ sym (split h) ∙ g .same
-
-  pub passed-all : length s ≤ i → true ≡ zeros s
-  passed-all h = sym (ap zeros (drop-of-length-le s {i = i} h)) ∙ g .same
+  pub looked-all : length s ≤ i → t ≡ zeros s
+  looked-all h = sym (both-end t) ∙ ap (λ (l : List ℕ). both t (zeros l)) (sym (drop-of-length-le s {i = i} h)) ∙ g .so-far
 
 -- the test's meaning
 pub zeros-are : (s : List ℕ) → zeros s ≡ true → s ≡ replicate (length s) 0

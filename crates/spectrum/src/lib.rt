@@ -175,15 +175,15 @@ fn silent16(sound: &[u8; 16]) -> bool
     silent(sound)
 }
 
+// Looks at every byte, so that the compiler can look at many at once.
 fn silent(sound: &[u8]) -> bool
     ensures { λ r. ⌜ r ≡ zeros (now (sound .entry)) ⌝ }
 {
+    let mut all = true;
     let mut i = 0;
     while i < sound.len() {
-        if sound[i] != 0 {
-            return false;
-        }
+        all = slices::and(all, sound[i] == 0);
         i += 1;
     }
-    true
+    all
 }

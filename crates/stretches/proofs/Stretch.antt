@@ -34,8 +34,8 @@ few x xs c =
     never (sym (rw (eq-eqb x (getD xs 0 0) (sym a), eq-eqb (getD xs 3 0) (getD xs 0 0) (front-at x xs 3 h ∙ sym a)) refl) ∙ p .1)) in
     omega arith
 
-one : (x : ℕ) (xs : List ℕ) → mayCode x (getD xs 0 0) (getD xs 3 0) ≡ false → packedAs (x ∷ xs) ≡ bytes (x ∷ packed xs)
-one x xs c =
+one-plain : (x : ℕ) (xs : List ℕ) → mayCode x (getD xs 0 0) (getD xs 3 0) ≡ false → packedAs (x ∷ xs) ≡ bytes (x ∷ packed xs)
+one-plain x xs c =
     let p = neither (eqb x 237) (eqb x (getD xs 0 0) && eqb (getD xs 3 0) (getD xs 0 0)) c in
     ap bytes (plain-code x xs (eqb-false x 237 (p .0)) (few x xs c))
 
@@ -69,7 +69,7 @@ module _ (s : List ℕ) (i : ℕ) (d d₁ d₂ : List ℕ) (o : ℕ) (b n f : Li
 
   part : (k : ℕ) → k ≤ 16 → ((j : ℕ) → j < k → mayCodeAt s (i + j) ≡ false) → Copied packedAs s i d o k d₂
   part k few c =
-      copied-part packedAs (λ (l : List ℕ). mayCode (getD l 0 0) (getD l 1 0) (getD l 4 0) ≡ false) one s i d o 17 k d₂ stored (omega arith) (omega arith) hd
+      copied-part packedAs (λ (l : List ℕ). mayCode (getD l 0 0) (getD l 1 0) (getD l 4 0) ≡ false) one-plain s i d o 17 k d₂ stored (omega arith) (omega arith) hd
       (λ j h. rw (getD-drop (i + j) s 0 0, getD-drop (i + j) s 1 0, getD-drop (i + j) s 4 0, add-zero (i + j)) (c j h))
 
   pub stopped-none : m ≡ 0 → Stopped s i d o 16 0 d₂

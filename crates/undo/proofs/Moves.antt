@@ -8,12 +8,13 @@ use Rattle.spectrum.specs.declared.Machine.{Machine}
 use Rattle.numbers.specs.declared.Refusal.the-variants.{NothingToMove, StepDamaged}
 use Rattle.numbers.specs.declared.Answer.the-variants.{Accepted}
 use Rattle.log_steps.specs.declared.Step.{Step}
-use Rattle.log_steps.specs.declared.Counts.{Counts}
-use Rattle.log_steps.specs.declared.Done.{Done}
-use Rattle.log_steps.specs.Steps.{stepAt, present, placed, intact}
-use Rattle.log_steps.specs.Session.{sessionOn, resultOf}
-use Rattle.log_steps.proofs.Pointed.{on}
-use Rattle.log_steps.proofs.Room.{refusedDone}
+use Rattle.session.specs.declared.Counts.{Counts}
+use Rattle.session.specs.declared.Done.{Done}
+use Rattle.log_steps.specs.Steps.{stepAt}
+use Rattle.step_places.specs.Pointed.{present, placed, intact}
+use Rattle.session.specs.Session.{sessionOn, resultOf}
+use Rattle.session.proofs.Given.{on}
+use Rattle.session.proofs.Given.{refusedDone}
 use Rattle.undo.specs.Undo.{moved, undoOf, redoOf}
 
 pub total-kept : (n next : Counts) (k : ℕ) → next ≡ record { standing = k; total = n .total } → next .total ≡ n .total

@@ -5,8 +5,9 @@ use Rattle.slices.specs.Choose.{choose, both}
 use Rattle.numbers.specs.declared.Refusal.the-variants.{NothingToMove, StepDamaged}
 use Rattle.numbers.specs.declared.Answer.the-variants.{Accepted}
 use Rattle.log_steps.specs.declared.Step.{Step}
-use Rattle.log_steps.specs.Steps.{stepAt, present, placed, intact}
-use Rattle.log_steps.specs.Session.{Session, CallResult, unchanged}
+use Rattle.log_steps.specs.Steps.{stepAt}
+use Rattle.step_places.specs.Pointed.{present, placed, intact}
+use Rattle.session.specs.Session.{Session, CallResult, unchanged}
 
 -- v is put where a step points, if the step is intact and `was` is there now; then n stand. No log byte is written.
 abbrev pub moved : Session → Step → ℕ → ℕ → ℕ → CallResult

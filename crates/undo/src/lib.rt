@@ -1,13 +1,13 @@
 // Undo and redo, once a call is sound: the value of a step put back where the step points, or put there again.
-use log_steps::Counts;
-use log_steps::Done;
 use log_steps::Step;
 use numbers::Refusal;
+use session::Counts;
+use session::Done;
 use spectrum::Machine;
 ghost use Prim.Native.Nat.{ℕ};
 ghost use mathlib.Core.Path.{_≡_};
 ghost use mathlib.Core.List.{List};
-ghost use Rattle.log_steps.specs.Session.{sessionOn, resultOf};
+ghost use Rattle.session.specs.Session.{sessionOn, resultOf};
 ghost use Rattle.log_steps.specs.Inner.{Ready};
 ghost use Rattle.undo.specs.Undo.{moved, undoOf, redoOf};
 
@@ -51,10 +51,10 @@ fn moved_to(
     ensures { λ r. ⌜ ((log : List ℕ) → resultOf r (now (memory .exit)) log ≡ moved (sessionOn m (now (memory .entry)) log n) s was v (next .standing)) ⌝ }
 {
     let model = m.model;
-    if log_steps::is_intact(model, s) {
-        let there = log_steps::present_at(m, memory, s);
+    if step_places::is_intact(model, s) {
+        let there = step_places::present_at(m, memory, s);
         if there == was {
-            return Done::accepted(log_steps::put_value(m, memory, s, v), next);
+            return Done::accepted(step_places::put_value(m, memory, s, v), next);
         }
         return Done::refused(Refusal::StepDamaged, m, n);
     }

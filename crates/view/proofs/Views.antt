@@ -67,9 +67,6 @@ rom-inside : (k : Model) (page : ℕ) → 8 ≤ page → ltb page (romPages k) �
 rom-inside K48 page h e = omega (arith, ltb-true page 9 e)
 rom-inside K128 page h e = omega (arith, ltb-true page 10 e)
 
-never-part : (s : ℕ) → Nowhere ≡ InArea s → ⊥
-never-part s e = let z : _≡_ {A = ℕ} 0 1 = cc in omega arith
-
 module _ (m : Machine) (rom area page : ℕ) (p : Part) (e : p ≡ partFor (viewAnswer m rom area page) page) where
   pub area-inside : (start : ℕ) → p ≡ InArea start → start + 16384 ≤ area
   unfolding viewAnswer

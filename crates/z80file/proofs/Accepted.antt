@@ -17,11 +17,13 @@ use Rattle.pages.specs.declared.Model.the-variants.{K48}
 use Rattle.numbers.specs.declared.Refusal.{Refusal}
 use Rattle.numbers.specs.declared.Refusal.the-variants.{BlockCut, BlockTwice, UnpackedLength, BlockMissing, EndMarker}
 use Rattle.pages.specs.Pages.{owned}
-use Rattle.blocks.specs.declared.Page.{Page}
-use Rattle.blocks.specs.declared.Page.the-variants.{At, NoPage}
-use Rattle.blocks.specs.Blocks.{pageOf, allThere, Block, refused, brought, sizeOf, contents, pageFrom, onPage, blockOf, BodyResult, bodyRefused, bodyRead, afterBlock, finished, blocks, noneSeen, blocksInto}
+use Rattle.block_pages.specs.declared.Page.{Page}
+use Rattle.block_pages.specs.declared.Page.the-variants.{At, NoPage}
+use Rattle.block_read.specs.Block.{Block, refused, brought, sizeOf, contents, pageFrom, onPage, blockOf}
+use Rattle.blocks.specs.Blocks.{BodyResult, bodyRefused, bodyRead, afterBlock, finished, blocks, noneSeen, blocksInto}
+use Rattle.block_pages.specs.Numbered.{pageOf, allThere}
 use Rattle.pages.proofs.Places.{owned-small}
-use Rattle.blocks.proofs.Pages.{page-owned}
+use Rattle.block_pages.proofs.Pages.{page-owned}
 use Rattle.body_v1.specs.Body.{spread, spreadFrom, marked, bodyInto}
 use Rattle.z80file.specs.Clean.{Clean}
 use Rattle.z80file.proofs.Places.{put-long, put-elsewhere, blank-at, blank-long}

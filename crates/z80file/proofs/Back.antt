@@ -18,20 +18,22 @@ use Rattle.pages.specs.declared.Model.{Model}
 use Rattle.pages.specs.declared.Model.the-variants.{K48, K128}
 use Rattle.numbers.specs.declared.Refusal.the-variants.{BlockMissing}
 use Rattle.pages.specs.Pages.{slots, pageAmong, owned, pageIn}
-use Rattle.blocks.specs.declared.Page.the-variants.{At}
-use Rattle.blocks.specs.Blocks.{pageOf, allThere, Block, brought, sizeOf, contents, onPage, blockOf, bodyRead, bodyRefused, afterBlock, finished, blocks, noneSeen, blocksInto}
+use Rattle.block_pages.specs.declared.Page.the-variants.{At}
+use Rattle.block_read.specs.Block.{Block, brought, sizeOf, contents, onPage, blockOf}
+use Rattle.blocks.specs.Blocks.{bodyRead, bodyRefused, afterBlock, finished, blocks, noneSeen, blocksInto}
+use Rattle.block_pages.specs.Numbered.{pageOf, allThere}
 use Rattle.blocks.proofs.Turns.{turn, ended}
 use Rattle.pages.specs.declared.Slot.{Slot}
 use Rattle.block_write.specs.BlockFor.{blockFor}
-use Rattle.z80write.specs.Written.{laid}
+use Rattle.blocks_write.specs.Laid.{laid}
 use Rattle.z80file.specs.Clean.{Clean}
 use Rattle.z80file.proofs.Places.{page-at, put-long, put-here, put-elsewhere, blank-at, blank-long}
 
 -- the block at the front of a list that holds it whole
-front : (model : Model) (seen : List Bool) (s : List ℕ) (n size : ℕ) → wordAt s 0 ≡ n → size ≡ sizeOf n → 3 + size ≤ length s
+front-block : (model : Model) (seen : List Bool) (s : List ℕ) (n size : ℕ) → wordAt s 0 ≡ n → size ≡ sizeOf n → 3 + size ≤ length s
     → blockOf model seen s ≡ onPage (pageOf model (getD s 2 0)) seen (contents (eqb n 65535) (take size (drop 3 s))) (drop (3 + size) s)
 unfolding blockOf
-front model seen s n size en es g =
+front-block model seen s n size en es g =
     rw (le-ltb (length s) 3 (omega arith), en, ← es, le-ltb (length s) (3 + size) g)
 
 -- head, data, rest: what they bring
@@ -40,7 +42,7 @@ module _ (model : Model) (seen : List Bool) (number page : ℕ) (p rest : List �
       → blockOf model seen (a ∷ b ∷ number ∷ (d ++ rest)) ≡ brought page p rest
   brings-of a b n size d en es ed ec =
       let s = a ∷ b ∷ number ∷ (d ++ rest) in
-      front model seen s n size en es (omega (arith, length-append d rest))
+      front-block model seen s n size en es (omega (arith, length-append d rest))
       ∙ rw (← drop-drop size 3 s, f, u, take-at d rest size ed, drop-at d rest size ed, ec, l)
 
   one-block : blockOf model seen (blockFor number p ++ rest) ≡ brought page p rest
@@ -81,15 +83,15 @@ agree-more a t seen page la lt ls h g i hi = go (eqb (i / 16384) page) refl
         put-elsewhere a (pageIn t page) page la lp h i q ∙ g i hi ∙ rw (getD-set-other seen page (i / 16384) true false q)
 
 -- the pages seen after a list of blocks, and that each is of this mode and new
-abbrev marked : List Bool → List Slot → List Bool
-marked seen [] = seen
-marked seen (x ∷ more) = marked (set seen (x .page) true) more
+abbrev seenAfter : List Bool → List Slot → List Bool
+seenAfter seen [] = seen
+seenAfter seen (x ∷ more) = seenAfter (set seen (x .page) true) more
 
 abbrev Fresh : Model → List Bool → List Slot → Type 0
 Fresh model seen [] = Unit {0}
 Fresh model seen (x ∷ more) = (pageOf model (x .number) ≡ At (x .page)) × ((getD seen (x .page) false ≡ false) × ((x .page < 8) × Fresh model (set seen (x .page) true) more))
 
-record Reads (model : Model) (turns : ℕ) (seen : List Bool) (a s : List ℕ) (seen′ : List Bool) (t : List ℕ) : Type 0 where
+record ReadsBack (model : Model) (turns : ℕ) (seen : List Bool) (a s : List ℕ) (seen′ : List Bool) (t : List ℕ) : Type 0 where
   last : List ℕ
   reading : blocks model turns seen a s ≡ finished model seen′ last
   long : length last ≡ 131072
@@ -109,7 +111,7 @@ longer number p rest = omega (arith, length-append (blockFor number p) rest, blo
 -- a block before blocks that read
 one-more : (model : Model) (turns number page : ℕ) (seen seen′ : List Bool) (a p rest t : List ℕ)
     → pageOf model number ≡ At page → getD seen page false ≡ false → length p ≡ 16384
-    → Reads model turns (set seen page true) (put a (page * 16384) p) rest seen′ t → Reads model (suc turns) seen a (blockFor number p ++ rest) seen′ t
+    → ReadsBack model turns (set seen page true) (put a (page * 16384) p) rest seen′ t → ReadsBack model (suc turns) seen a (blockFor number p ++ rest) seen′ t
 one-more model turns number page seen seen′ a p rest t f u l r =
     record {
       last = r .last;
@@ -125,7 +127,7 @@ one-more model turns number page seen seen′ a p rest t f u l r =
 -- by induction over the blocks that are left
 reads : (model : Model) (t : List ℕ) → length t ≡ 131072 → (more : List Slot) (turns : ℕ) (seen : List Bool) (a : List ℕ)
     → length (laid more t) ≤ turns → Fresh model seen more → length seen ≡ 8 → length a ≡ 131072 → Agree a seen t
-    → Reads model turns seen a (laid more t) (marked seen more) t
+    → ReadsBack model turns seen a (laid more t) (seenAfter seen more) t
 unfolding laid
 reads model t lt [] turns seen a h f ls la g = record { last = a; reading = ended model turns seen a [] refl; long = la; agree = g }
 reads model t lt (x ∷ more) zero seen a h f ls la g = absurd (omega (arith, longer (x .number) (pageIn t (x .page)) (laid more t)))
@@ -180,7 +182,7 @@ fresh K128 = (
 
 -- the pages seen after a table's blocks are its pages
 seen-among : (more : List Slot) (seen : List Bool) (page : ℕ) → page < length seen
-    → getD (marked seen more) page false ≡ choose (pageAmong more page) true (getD seen page false)
+    → getD (seenAfter seen more) page false ≡ choose (pageAmong more page) true (getD seen page false)
 seen-among [] seen page h = refl
 seen-among (x ∷ more) seen page h =
     seen-among more (set seen (x .page) true) page (omega (arith, length-set seen (x .page) true)) ∙ go (eqb (x .page) page) (pageAmong more page) refl
@@ -195,7 +197,7 @@ seen-among (x ∷ more) seen page h =
     go false false e = getD-set-other seen (x .page) page true false (λ q. eqb-false _ _ e (sym q))
 
 abbrev allSlots : Model → List Bool
-allSlots model = marked noneSeen (slots model)
+allSlots model = seenAfter noneSeen (slots model)
 
 seen-owned : (model : Model) (page : ℕ) → page < 8 → getD (allSlots model) page false ≡ owned model page
 seen-owned model page h =

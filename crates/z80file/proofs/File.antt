@@ -36,7 +36,8 @@ use Rattle.blocks.specs.Blocks.{BodyResult, bodyRefused, bodyRead, blocksInto}
 use Rattle.z80read.specs.Read.{memoryInto, ReadResult, refusedRead, afterBody, afterHead, readOf}
 use Rattle.z80write.specs.declared.Written.{Written}
 use Rattle.pages.specs.Pages.{slots}
-use Rattle.z80write.specs.Written.{laid, fileOf, WriteResult, refusedWrite, acceptedWrite, writtenOf, Writes}
+use Rattle.blocks_write.specs.Laid.{laid}
+use Rattle.z80write.specs.Written.{fileOf, WriteResult, refusedWrite, acceptedWrite, writtenOf, Writes}
 use Rattle.z80file.specs.Clean.{Clean, ReadGives}
 use Rattle.z80file.proofs.Back.{blocks-back}
 use Rattle.z80file.proofs.Accepted.{Good, good-blocks, good-body}
@@ -97,11 +98,11 @@ model-is : (v : Version) (model : Model) (a : Attachment) (s : List ℕ) → mac
 unfolding machineOf
 model-is v model a s = refl
 
-started : (s : List ℕ) (n : ℕ) (v : Version) (model : Model) (a : Attachment) (x : BodyResult) → n ≡ 131072 → headOf s ≡ Header v model a → Good model x
+accepted-start : (s : List ℕ) (n : ℕ) (v : Version) (model : Model) (a : Attachment) (x : BodyResult) → n ≡ 131072 → headOf s ≡ Header v model a → Good model x
     → afterBody x (machineOf v model a s) n .answer ≡ Accepted
     → ReadGives (afterBody x (machineOf v model a s) n .machine) (afterBody x (machineOf v model a s) n .memory) n
-started s n v model a (bodyRefused w) l e g h = absurd (refused-not w h)
-started s n v model a (bodyRead area) l e g h =
+accepted-start s n v model a (bodyRefused w) l e g h = absurd (refused-not w h)
+accepted-start s n v model a (bodyRead area) l e g h =
     record {
       whole-area = l;
       valid = machine-valid s v model a e;
@@ -118,5 +119,5 @@ read-start s n = go (eqb n 131072) refl (headOf s) refl
     go : (t : Bool) → eqb n 131072 ≡ t → (x : Head) → headOf s ≡ x → o t x .answer ≡ Accepted → ReadGives (o t x .machine) (o t x .memory) n
     go true e (Head.Refused w) q h = absurd (refused-not w h)
     go true e (Header v model a) q h =
-        started s n v model a (memoryInto v model (blank 131072) s) (eqb-true _ _ e) q (good-memory v model s (opens s (headOf s) v model a refl q .first)) h
+        accepted-start s n v model a (memoryInto v model (blank 131072) s) (eqb-true _ _ e) q (good-memory v model s (opens s (headOf s) v model a refl q .first)) h
     go false e x q h = absurd (refused-not AreaLength h)

@@ -21,9 +21,11 @@ use Rattle.header_read.specs.Reading.{machineOf}
 use Rattle.header_write.specs.Writing.{headerOf}
 use Rattle.header_write.proofs.WriteSteps.{header-length}
 use Rattle.header_canonical.proofs.HeadBack.{head-back}
-use Rattle.blocks.specs.Blocks.{BodyResult, bodyRefused, allThere, blocks, blocksInto}
+use Rattle.blocks.specs.Blocks.{BodyResult, bodyRefused, blocks, blocksInto}
+use Rattle.block_pages.specs.Numbered.{allThere}
 use Rattle.z80read.specs.Read.{ReadResult, afterBody, afterHead, readOf}
-use Rattle.z80write.specs.Written.{laid, fileOf, WriteResult, writtenOf}
+use Rattle.blocks_write.specs.Laid.{laid}
+use Rattle.z80write.specs.Written.{fileOf, WriteResult, writtenOf}
 use Rattle.z80write.proofs.Whole.{room}
 use Rattle.z80write.proofs.Longest.{file-most}
 use Rattle.z80file.specs.Clean.{Clean}
@@ -32,36 +34,36 @@ use Rattle.z80file.specs.Wrong.{refusesFiles, fixedMachine, inventsLengt
 use Rattle.z80file.proofs.Accepted.{clean-blank}
 use Rattle.z80file.proofs.Sample.{sample, zero-at, sample-typed, sample-valid}
 
-area : List ℕ
-area = blank 131072
+blank-area : List ℕ
+blank-area = blank 131072
 
-clean : Clean (sample .model) area
-unfolding area
+clean : Clean (sample .model) blank-area
+unfolding blank-area
 clean = clean-blank (sample .model)
 
 -- what was written is refused, where it is to be accepted
 pub refuted-refuses-files : BackOf refusesFiles writtenOf → ⊥
 unfolding refusesFiles
-refuted-refuses-files h = refused-not FileShort (ap (λ (o : ReadResult). o .answer) (h sample area sample-typed sample-valid clean))
+refuted-refuses-files h = refused-not FileShort (ap (λ (o : ReadResult). o .answer) (h sample blank-area sample-typed sample-valid clean))
 
 -- the sample with another last OUT
-changed : Machine
-changed = withOut sample 1
+otherMachine : Machine
+otherMachine = withOut sample 1
 
-changed-typed : Typed changed
-unfolding changed withOut sample
-changed-typed = record { pairs = λ k. omega (arith, zero-at 12 k); count = refl; r8 = omega arith; out = omega arith; sound = refl; side = refl }
+other-typed : Typed otherMachine
+unfolding otherMachine withOut sample
+other-typed = record { pairs = λ k. omega (arith, zero-at 12 k); count = refl; r8 = omega arith; out = omega arith; sound = refl; side = refl }
 
-changed-valid : validOf changed ≡ true
-unfolding changed withOut sample validOf
-changed-valid = refl
+other-valid : validOf otherMachine ≡ true
+unfolding otherMachine withOut sample validOf
+other-valid = refl
 
 -- one machine is read for both, where their last OUTs are 0 and 1
 pub refuted-fixed-machine : (fixed : Machine) → BackOf (fixedMachine fixed) writtenOf → ⊥
-unfolding fixedMachine area changed withOut sample
+unfolding fixedMachine blank-area otherMachine withOut sample
 refuted-fixed-machine fixed h =
-    let one : fixed .out7ffd ≡ 0 = ap (λ (o : ReadResult). o .machine .out7ffd) (h sample area sample-typed sample-valid clean) in
-    let two : fixed .out7ffd ≡ 1 = ap (λ (o : ReadResult). o .machine .out7ffd) (h changed area changed-typed changed-valid (clean-blank (changed .model))) in
+    let one : fixed .out7ffd ≡ 0 = ap (λ (o : ReadResult). o .machine .out7ffd) (h sample blank-area sample-typed sample-valid clean) in
+    let two : fixed .out7ffd ≡ 1 = ap (λ (o : ReadResult). o .machine .out7ffd) (h otherMachine blank-area other-typed other-valid (clean-blank (otherMachine .model))) in
     omega arith
 
 -- of no blocks all eight are missing
@@ -79,11 +81,11 @@ header-alone =
     ∙ ap (λ (x : BodyResult). afterBody x (machineOf V3 (sample .model) (sample .attachment) (headerOf sample ++ [])) 131072 .answer) no-blocks
 
 -- the first 86 bytes of what is written are the header
-front : take 86 (writtenOf sample area 131182 .out) ≡ headerOf sample ++ []
-front =
-    let tail = laid (slots (sample .model)) area in
-    let zs : List ℕ = replicate (131182 - length (fileOf sample area)) 0 in
-    ap (λ (o : WriteResult). take 86 (o .out)) (room sample area 131182 sample-valid (clean .long) (file-most sample area sample-typed))
+header-first : take 86 (writtenOf sample blank-area 131182 .out) ≡ headerOf sample ++ []
+header-first =
+    let tail = laid (slots (sample .model)) blank-area in
+    let zs : List ℕ = replicate (131182 - length (fileOf sample blank-area)) 0 in
+    ap (λ (o : WriteResult). take 86 (o .out)) (room sample blank-area 131182 sample-valid (clean .long) (file-most sample blank-area sample-typed))
     ∙ ap (take 86) (append-assoc (headerOf sample) tail zs)
     ∙ take-at (headerOf sample) (tail ++ zs) 86 (header-length sample sample-typed)
     ∙ sym (append-nil (headerOf sample))
@@ -93,4 +95,4 @@ pub refuted-invented-length : BackOf readOf inventsLength → ⊥
 unfolding inventsLength
 refuted-invented-length h =
     refused-not BlockMissing
-    (sym header-alone ∙ ap (λ (l : List ℕ). readOf l 131072 .answer) (sym front) ∙ ap (λ (o : ReadResult). o .answer) (h sample area sample-typed sample-valid clean))
+    (sym header-alone ∙ ap (λ (l : List ℕ). readOf l 131072 .answer) (sym header-first) ∙ ap (λ (o : ReadResult). o .answer) (h sample blank-area sample-typed sample-valid clean))

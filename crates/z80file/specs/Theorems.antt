@@ -8,8 +8,8 @@ use Rattle.pages.specs.declared.Model.{Model}
 use Rattle.numbers.specs.declared.Answer.the-variants.{Accepted}
 use Rattle.pages.specs.Pages.{owned}
 use Rattle.spectrum.specs.Valid.{Typed, validOf}
-use Rattle.blocks.specs.declared.Page.the-variants.{At}
-use Rattle.blocks.specs.Blocks.{pageOf}
+use Rattle.block_pages.specs.declared.Page.the-variants.{At}
+use Rattle.block_pages.specs.Numbered.{pageOf}
 use Rattle.z80read.specs.Read.{readOf}
 use Rattle.z80write.specs.Written.{fileOf, writtenOf}
 use Rattle.z80file.specs.Clean.{Clean, ReadGives}

@@ -16,6 +16,7 @@ use Rattle.numbers.specs.declared.Refusal.{Refusal}
 use Rattle.numbers.specs.declared.Refusal.the-variants.{AreaLength}
 use Rattle.numbers.specs.declared.Answer.{Answer}
 use Rattle.numbers.specs.declared.Answer.the-variants.{Accepted, Refused}
+use Rattle.numbers.proofs.Numbers.{refused-not}
 use Rattle.spectrum.specs.Machine.{blankMachine}
 use Rattle.spectrum.specs.Valid.{validOf}
 use Rattle.header.specs.declared.Version.{Version}
@@ -36,9 +37,6 @@ use Rattle.z80read.specs.Read.{memoryInto, ReadResult, refusedRead, afte
 -- what a refused read gives beside the area
 abbrev refusedOpened : Refusal → Opened
 refusedOpened why = record { answer = Refused why; machine = blankMachine }
-
-never : (w : Refusal) → Refused w ≡ Accepted → ⊥
-never w p = let z : _≡_ {A = ℕ} 0 1 = cc in omega arith
 
 -- what follows the header, by version
 module _ (v : Version) (model : Model) (area s : List ℕ) (r : Answer) (after : List ℕ) where
@@ -68,18 +66,18 @@ module _ (x : BodyResult) (m : Machine) (n : ℕ) (answer : Answer) (after : Lis
             machine = ap (λ (o : Opened). o .machine) q;
             memory = t .1 ∙ sym (ap (λ (k : ℕ). replicate k 0) l);
           }
-      go (bodyRead a) t = absurd (never why (sym e ∙ t .0))
+      go (bodyRead a) t = absurd (refused-not why (sym e ∙ t .0))
 
   pub on-accepted : (machine : Machine) (r : Opened) → answer ≡ Accepted → machine ≡ m → r .answer ≡ Accepted → r .machine ≡ machine → ReadLeaves (afterBody x m n) r after
   on-accepted machine r e q a b = go x t
     where
       go : (x : BodyResult) → ReadsBody x answer after → ReadLeaves (afterBody x m n) r after
-      go (bodyRefused w) t = absurd (never w (sym (t .0) ∙ e))
+      go (bodyRefused w) t = absurd (refused-not w (sym (t .0) ∙ e))
       go (bodyRead area) t = record { answer = a; machine = b ∙ q; memory = t .1 }
 
 -- a refusal is not accepted, so nothing is said of its machine
 no-machine : (o : ReadResult) (why : Refusal) (r : Opened) (area : List ℕ) → ReadLeaves o r area → r .answer ≡ Refused why → Reads o r area
-no-machine o why r area l e = record { leaves = l; valid = λ a. absurd (never why (sym e ∙ a)) }
+no-machine o why r area l e = record { leaves = l; valid = λ a. absurd (refused-not why (sym e ∙ a)) }
 
 module _ (s before clear : List ℕ) (c₀ : clear ≡ take 0 before ++ replicate (length before - 0) 0) where
   c : clear ≡ replicate (length before) 0
@@ -132,5 +130,5 @@ module _ (s before clear : List ℕ) (c₀ : clear ≡ take 0 before ++ replicat
           }
         where
           valid : (x : BodyResult) → ReadLeaves (afterBody x (machineOf v model a s) (length before)) r area → r .answer ≡ Accepted → validOf (r .machine) ≡ true
-          valid (bodyRefused w) l g = absurd (never w (sym (l .answer) ∙ g))
+          valid (bodyRefused w) l g = absurd (refused-not w (sym (l .answer) ∙ g))
           valid (bodyRead m) l g = ap validOf (l .machine) ∙ machine-valid s v model a (sym eh ∙ e)

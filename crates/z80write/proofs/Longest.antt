@@ -20,7 +20,8 @@ use Rattle.pages.specs.declared.Slot.{Slot}
 use Rattle.pages.specs.Pages.{slots, pageIn}
 use Rattle.spectrum.specs.Valid.{validOf, Typed}
 use Rattle.block_write.specs.BlockFor.{blockFor}
-use Rattle.z80write.specs.Written.{laid, fileOf, WriteResult, acceptedWrite, writtenOf}
+use Rattle.blocks_write.specs.Laid.{laid}
+use Rattle.z80write.specs.Written.{fileOf, WriteResult, acceptedWrite, writtenOf}
 use Rattle.block_write.proofs.Block.{block-size, block-plain}
 use Rattle.z80write.proofs.Whole.{file-long, room}
 

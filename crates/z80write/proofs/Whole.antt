@@ -17,7 +17,8 @@ use Rattle.spectrum.specs.Valid.{validOf, Typed}
 use Rattle.header_write.specs.Writing.{headerOf}
 use Rattle.header_write.proofs.WriteSteps.{header-length}
 use Rattle.z80write.specs.declared.Written.{Written}
-use Rattle.z80write.specs.Written.{laid, fileOf, WriteResult, refusedWrite, acceptedWrite, writtenOf, Writes}
+use Rattle.blocks_write.specs.Laid.{laid}
+use Rattle.z80write.specs.Written.{fileOf, WriteResult, refusedWrite, acceptedWrite, writtenOf, Writes}
 use Rattle.block_write.specs.Inner.{LaidDown, NoRoom, Lays}
 
 abbrev pub blocksOf : Machine → List ℕ → List ℕ

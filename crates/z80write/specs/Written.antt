@@ -2,26 +2,20 @@
 -- The answer gives the file's length; output past it is set to zero."
 use Prim.Native.Nat.{ℕ, _-_}
 use mathlib.Core.Path.{_≡_}
-use mathlib.Core.List.{List, [], _∷_, _++_}
+use mathlib.Core.List.{List, _++_}
 use lib.ListN.{length, replicate}
 use lib.Dec.{eqb, leb}
 use Rattle.slices.specs.Choose.{choose}
 use Rattle.spectrum.specs.declared.Machine.{Machine}
-use Rattle.pages.specs.declared.Slot.{Slot}
 use Rattle.numbers.specs.declared.Refusal.{Refusal}
 use Rattle.numbers.specs.declared.Refusal.the-variants.{InvalidMachine, MemoryLength, OutputShort}
 use Rattle.numbers.specs.declared.Answer.{Answer}
 use Rattle.numbers.specs.declared.Answer.the-variants.{Accepted, Refused}
-use Rattle.pages.specs.Pages.{slots, pageIn}
+use Rattle.pages.specs.Pages.{slots}
 use Rattle.spectrum.specs.Valid.{validOf}
 use Rattle.header_write.specs.Writing.{headerOf}
-use Rattle.block_write.specs.BlockFor.{blockFor}
+use Rattle.blocks_write.specs.Laid.{laid}
 use Rattle.z80write.specs.declared.Written.{Written}
-
--- the blocks of a table's pages, in its order
-unfoldable pub laid : List Slot → List ℕ → List ℕ
-laid [] area = []
-laid (x ∷ more) area = blockFor (x .number) (pageIn area (x .page)) ++ laid more area
 
 -- the file: header, then blocks
 abbrev pub fileOf : Machine → List ℕ → List ℕ

@@ -4,6 +4,7 @@
 mod c {
     #[link(name = "snapshot", kind = "static")]
     extern "C" {
+        pub fn snap_version() -> u32;
         pub fn snap_z80_read(
             file: *const u8,
             file_len: usize,
@@ -32,6 +33,21 @@ mod c {
             in_rom: *mut u8,
             start: *mut u64,
             length: *mut u64,
+        ) -> u32;
+        pub fn snap_model(
+            header: *const u8,
+            header_len: usize,
+            model: *mut u8,
+            attachment: *mut u8,
+        ) -> u32;
+        pub fn snap_pair(header: *const u8, header_len: usize, pair: u8, value: *mut u16) -> u32;
+        pub fn snap_place(
+            header: *const u8,
+            header_len: usize,
+            address: u16,
+            in_rom: *mut u8,
+            page: *mut u8,
+            offset: *mut u16,
         ) -> u32;
         pub fn snap_log_start(
             log: *mut u8,
@@ -97,6 +113,12 @@ mod c {
     }
 }
 
+/// The version of the library.
+pub fn version() -> u32 {
+    // SAFETY: nothing is lent.
+    unsafe { c::snap_version() }
+}
+
 /// Reads a `.z80` file into the area and the header; 0 or the number that refuses it.
 pub fn read(file: &[u8], area: &mut [u8], header: &mut [u8]) -> u32 {
     let (to, room) = (area.as_mut_ptr(), area.len());
@@ -139,6 +161,25 @@ pub fn view(from: Viewed, page: u8, in_rom: &mut u8, start: &mut u64, length: &m
             length,
         )
     }
+}
+
+/// The model and the attachment of a machine; 0 or the number that refuses it.
+pub fn model(header: &[u8], model: &mut u8, attachment: &mut u8) -> u32 {
+    // SAFETY: the slice and both numbers are valid and do not overlap.
+    unsafe { c::snap_model(header.as_ptr(), header.len(), model, attachment) }
+}
+
+/// The value of a register pair; 0 or the number that refuses it.
+pub fn pair(header: &[u8], pair: u8, value: &mut u16) -> u32 {
+    // SAFETY: the slice and the value are valid and do not overlap.
+    unsafe { c::snap_pair(header.as_ptr(), header.len(), pair, value) }
+}
+
+/// Where an address leads, `in_rom` 1 for ROM; 0 or the number that refuses it.
+pub fn place(header: &[u8], address: u16, in_rom: &mut u8, page: &mut u8, offset: &mut u16) -> u32 {
+    let (machine, length) = (header.as_ptr(), header.len());
+    // SAFETY: the slice and the three numbers are valid and do not overlap.
+    unsafe { c::snap_place(machine, length, address, in_rom, page, offset) }
 }
 
 /// Starts a log.

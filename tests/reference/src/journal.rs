@@ -3,7 +3,6 @@
 
 mod contents;
 mod model;
-mod paging;
 mod rules;
 mod step;
 #[cfg(test)]
@@ -12,7 +11,6 @@ mod view;
 
 pub use contents::Contents;
 pub use model::Replay;
-pub use paging::{owns, page_at};
 pub use rules::{call, start, Buffers};
 pub use step::{capacity, Step, STEP};
 pub use view::{view, View};
@@ -40,9 +38,6 @@ pub enum Call {
     Undo,
     Redo,
 }
-
-/// The register pairs AF BC DE HL AF' BC' DE' HL' IX IY SP PC.
-pub const PAIRS: u8 = 12;
 
 /// The bit of the last OUT to 7FFD that locks paging.
 pub const LOCK: u8 = 0x20;

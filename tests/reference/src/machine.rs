@@ -2,11 +2,16 @@
 
 mod clock;
 mod header;
+pub mod looks;
+mod paging;
+mod pairs;
 #[cfg(test)]
 mod tests;
 
 pub use clock::{counters, position, quarter};
 pub use header::{flags, from_header, header, own_header, Version, HEADER};
+pub use paging::{owns, page_at};
+pub use pairs::PAIRS;
 
 #[derive(Debug, Clone, Copy, PartialEq, Eq)]
 pub enum Model {

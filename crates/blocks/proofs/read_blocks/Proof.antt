@@ -3,18 +3,18 @@ use Rattle.blocks.specs.Blocks.{blocksInto}
 use lib.ListN.{length, drop}
 use mathlib.Core.Path.{_≡_, refl}
 use Prim.Native.Nat.{_-_}
-use Rattle.blocks.proofs.Turns.{Going, going-none, going-more, going-stop, going-all, going-missing, next-page, next-falls}
+use Rattle.blocks.proofs.Turns.{BlocksSoFar, blocks-begin, going-more, going-stop, going-all, going-missing, next-page, next-falls}
 use Rattle.blocks.proofs.read_blocks.Statement.{statement}
 use Rattle.blocks.proofs.read_blocks.Tie as tie
 
 abbrev Inv-loop : tie.InvT-loop
-Inv-loop file from model area₀ seen₀ at₀ area seen at = Going model file (blocksInto model area₀ (drop from file)) area seen at × (length area ≡ length area₀)
+Inv-loop file from model area₀ seen₀ at₀ area seen at = BlocksSoFar model file (blocksInto model area₀ (drop from file)) area seen at × (length area ≡ length area₀)
 
 abbrev μ-loop : tie.MeasureT-loop
 μ-loop file from model area₀ seen₀ at₀ area seen at = length file - at
 
 loop-holds : tie.Need-loop-holds Inv-loop μ-loop
-loop-holds c = (going-none _ _ _ _, refl)
+loop-holds c = (blocks-begin _ _ _ _, refl)
 
 read-block-requires : tie.Need-read-block-requires Inv-loop μ-loop
 read-block-requires c κs = search needs

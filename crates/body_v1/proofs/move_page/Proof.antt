@@ -1,4 +1,4 @@
-use Rattle.body_v1.proofs.Bodies.{moved}
+use Rattle.body_v1.proofs.Bodies.{moved-page}
 use borrow.Author.Needs.{needs}
 use Rattle.body_v1.proofs.move_page.Statement.{statement}
 use Rattle.body_v1.proofs.move_page.Tie as tie
@@ -22,7 +22,7 @@ same-length : tie.Need-same-length
 same-length c = search needs
 
 returns : tie.Need-returns
-returns c = search moved
+returns c = search moved-page
 
 pub move-page-spec : {M : Type 1} → statement M
 move-page-spec =

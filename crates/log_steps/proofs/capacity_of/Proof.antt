@@ -1,4 +1,4 @@
-use Rattle.log_steps.proofs.Pointed.{capacity-small, capacity-most}
+use Rattle.log_steps.proofs.Room.{capacity-small, capacity-most}
 use Rattle.log_steps.proofs.capacity_of.Statement.{statement}
 use Rattle.log_steps.proofs.capacity_of.Tie as tie
 

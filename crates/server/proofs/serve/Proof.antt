@@ -4,13 +4,13 @@ use native.Mathlib.Omega.{arith}
 use lib.ListN.{length}
 use borrow.Author.Needs.{needs}
 use Rattle.journal_bytes.specs.Calls.{buffers}
-use Rattle.server.proofs.Turns.{Going, going-none, going-more, going-done, serves, number-fits}
+use Rattle.server.proofs.Turns.{CallsSoFar, calls-begin, going-more, going-done, serves, number-fits}
 use Rattle.server.proofs.serve.Statement.{statement}
 use Rattle.server.proofs.serve.Tie as tie
 
 abbrev Inv-loop : tie.InvT-loop
 Inv-loop head₀ area₀ log₀ standing₀ total₀ calls numbers₀ n i₀ head area log standing total numbers i =
-    Going calls n (buffers head₀ area₀ log₀ standing₀ total₀) (buffers head area log standing total) numbers₀ numbers i
+    CallsSoFar calls n (buffers head₀ area₀ log₀ standing₀ total₀) (buffers head area log standing total) numbers₀ numbers i
     × (length head ≡ length head₀) × (length area ≡ length area₀) × (length log ≡ length log₀)
 
 abbrev μ-loop : tie.MeasureT-loop
@@ -23,7 +23,7 @@ call-count-requires : tie.Need-call-count-requires Inv-loop μ-loop
 call-count-requires c κs = search needs
 
 loop-holds : tie.Need-loop-holds Inv-loop μ-loop
-loop-holds c = (going-none _ _ _ _ (omega arith), refl, refl, refl)
+loop-holds c = (calls-begin _ _ _ _ (omega arith), refl, refl, refl)
 
 call-at-requires : tie.Need-call-at-requires Inv-loop μ-loop
 call-at-requires c κs = omega arith

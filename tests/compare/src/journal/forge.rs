@@ -2,8 +2,8 @@
 
 use compare::calls::journal::Checker;
 use compare::machines::header;
-use reference::journal::{capacity, owns, Call, Correction, Step, LOCK, PAIRS, STEP};
-use reference::machine::Model;
+use reference::journal::{capacity, Call, Correction, Step, LOCK, STEP};
+use reference::machine::{owns, Model, PAIRS};
 use reference::memory::{Rng, MEMORY, PAGE};
 
 pub const MODELS: [Model; 2] = [Model::K48, Model::K128];

@@ -7,8 +7,8 @@ use compare::calls::seen::Function;
 use compare::calls::{answer, note, outcome};
 use compare::machines::machine;
 use compare::report::{hex, Group, Outcome};
-use reference::journal::{capacity, page_at, Call, Correction, Replay, Step, PAIRS, STEP};
-use reference::machine::{header, Model};
+use reference::journal::{capacity, Call, Correction, Replay, Step, STEP};
+use reference::machine::{header, page_at, Model, PAIRS};
 use reference::memory::{Rng, MEMORY, PAGE};
 
 /// The most calls of a list.
@@ -158,7 +158,7 @@ impl Run<'_> {
                 Some(Step::byte(page, offset, contents.memory[place], value))
             }
             Correction::Pair { pair, value } => {
-                let old = (pair < PAIRS).then(|| contents.pair(pair))?;
+                let old = (pair < PAIRS).then(|| machine.pair(pair))?;
                 Some(Step::pair(pair, old, value))
             }
             Correction::Out { value } => Some(Step::out(machine.paging, value)),

@@ -1,7 +1,7 @@
 //! Random lists of calls: stretches of corrections, of undos and of redos, refused calls among them.
 
-use reference::journal::{page_at, Call, Correction, Replay, LOCK, PAIRS};
-use reference::machine::Model;
+use reference::journal::{Call, Correction, Replay, LOCK};
+use reference::machine::{page_at, Model, PAIRS};
 use reference::memory::{Rng, PAGE};
 
 #[derive(Clone, Copy)]
@@ -141,7 +141,7 @@ impl Lister<'_> {
             false => rng.below(PAIRS.into()) as u8,
         };
         let value = match rng.below(6) {
-            0 if pair < PAIRS => model.now().pair(pair),
+            0 if pair < PAIRS => model.now().machine.pair(pair),
             1 => rng.pick(&[0, 0x00FF, 0xFF00, 0xFFFF]),
             _ => rng.word() as u16,
         };

@@ -1,7 +1,7 @@
 //! A machine with its memory, and what one correction does to them.
 
-use super::{page_at, Correction};
-use crate::machine::Machine;
+use super::Correction;
+use crate::machine::{page_at, Machine};
 use crate::memory::PAGE;
 
 #[derive(Debug, Clone, PartialEq, Eq)]
@@ -36,7 +36,7 @@ impl Contents {
     pub fn value(&self, place: Place) -> u16 {
         match place {
             Place::Byte(at) => self.memory[at].into(),
-            Place::Pair(pair) => self.pair(pair),
+            Place::Pair(pair) => self.machine.pair(pair),
             Place::LastOut => self.machine.paging.into(),
         }
     }
@@ -44,52 +44,13 @@ impl Contents {
     pub fn put(&mut self, place: Place, value: u16) {
         match place {
             Place::Byte(at) => self.memory[at] = value as u8,
-            Place::Pair(pair) => self.put_pair(pair, value),
+            Place::Pair(pair) => self.machine.put_pair(pair, value),
             Place::LastOut => self.machine.paging = value as u8,
         }
     }
 
     pub fn make(&mut self, correction: Correction) {
         self.put(self.place(correction), asked(correction));
-    }
-
-    /// The value of a register pair below 12.
-    pub fn pair(&self, pair: u8) -> u16 {
-        let machine = &self.machine;
-        match pair {
-            0 => u16::from_be_bytes([machine.a, machine.f]),
-            1 => machine.bc,
-            2 => machine.de,
-            3 => machine.hl,
-            4 => u16::from_be_bytes([machine.alt_a, machine.alt_f]),
-            5 => machine.alt_bc,
-            6 => machine.alt_de,
-            7 => machine.alt_hl,
-            8 => machine.ix,
-            9 => machine.iy,
-            10 => machine.sp,
-            11 => machine.pc,
-            _ => panic!("no register pair {pair}"),
-        }
-    }
-
-    fn put_pair(&mut self, pair: u8, value: u16) {
-        let machine = &mut self.machine;
-        match pair {
-            0 => [machine.a, machine.f] = value.to_be_bytes(),
-            1 => machine.bc = value,
-            2 => machine.de = value,
-            3 => machine.hl = value,
-            4 => [machine.alt_a, machine.alt_f] = value.to_be_bytes(),
-            5 => machine.alt_bc = value,
-            6 => machine.alt_de = value,
-            7 => machine.alt_hl = value,
-            8 => machine.ix = value,
-            9 => machine.iy = value,
-            10 => machine.sp = value,
-            11 => machine.pc = value,
-            _ => panic!("no register pair {pair}"),
-        }
     }
 }
 

@@ -3,8 +3,8 @@
 //! what it held at the start.
 
 use super::contents::{asked, Place};
-use super::{capacity, Call, Contents, Correction, LOCK, PAIRS};
-use crate::machine::{Machine, Model};
+use super::{capacity, Call, Contents, Correction, LOCK};
+use crate::machine::{Machine, Model, PAIRS};
 use crate::refusal::{number, Refusal};
 use std::collections::BTreeMap;
 

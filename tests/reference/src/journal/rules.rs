@@ -1,8 +1,8 @@
 //! The calls over byte buffers, as the library exports them: any header, area, log and numbers. The machine
 //! crosses as its v3 header, and a correction changes header bytes.
 
-use super::{capacity, owns, page_at, Call, Correction, Step, LOCK, PAIRS, STEP};
-use crate::machine::{own_header, Model};
+use super::{capacity, Call, Correction, Step, LOCK, STEP};
+use crate::machine::{own_header, owns, page_at, Model, PAIRS};
 use crate::memory::{MEMORY, PAGE};
 use crate::refusal::{number, Refusal, ACCEPTED};
 

@@ -1,7 +1,7 @@
 //! The examples of the rules, and the model against the rules.
 
 use super::*;
-use crate::machine::{from_header, header, own_header, Machine, Model, Version, HEADER};
+use crate::machine::{from_header, header, own_header, Machine, Model, Version, HEADER, PAIRS};
 use crate::memory::{Rng, MEMORY, PAGE};
 
 fn machine(model: Model, last_out: u8) -> Machine {

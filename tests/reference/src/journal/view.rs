@@ -1,7 +1,6 @@
 //! Where a page lies: a part of the ROM or of the area.
 
-use super::owns;
-use crate::machine::{own_header, Model};
+use crate::machine::{own_header, owns, Model};
 use crate::memory::{MEMORY, PAGE};
 use crate::refusal::{number, Refusal};
 

@@ -1,0 +1,90 @@
+use borrow.Author.Needs.{needs}
+use Rattle.blocks_write.proofs.Turns.{LaidSoFar, laid-begin, going-more, going-over, going-end}
+use Prim.Native.Nat.{_-_}
+use Rattle.blocks_write.proofs.lay.Statement.{statement}
+use Rattle.blocks_write.proofs.lay.Tie as tie
+
+abbrev Inv-loop : tie.InvT-loop
+Inv-loop area model out₀ from n at₀ i₀ out at i = LaidSoFar model area out₀ from out i at
+
+abbrev μ-loop : tie.MeasureT-loop
+μ-loop area model out₀ from n at₀ i₀ out at i = n - i
+
+count-requires : tie.Need-count-requires Inv-loop μ-loop
+count-requires c κs = search needs
+
+loop-holds : tie.Need-loop-holds Inv-loop μ-loop
+loop-holds c = search laid-begin
+
+slot-at-requires : tie.Need-slot-at-requires Inv-loop μ-loop
+slot-at-requires c κs = search needs
+
+mul-base : tie.Need-mul-base Inv-loop μ-loop
+mul-base c = search needs
+
+add-top : tie.Need-add-top Inv-loop μ-loop
+add-top c = search needs
+
+sub-write-block : tie.Need-sub-write-block Inv-loop μ-loop
+sub-write-block c = search needs
+
+part-write-block-start : tie.Need-part-write-block-start Inv-loop μ-loop
+part-write-block-start c = search needs
+
+part-write-block-end : tie.Need-part-write-block-end Inv-loop μ-loop
+part-write-block-end c = search needs
+
+write-block-requires : tie.Need-write-block-requires Inv-loop μ-loop
+write-block-requires c κs = search needs
+
+enum-known-e : tie.Need-enum-known-e Inv-loop μ-loop
+enum-known-e c = search needs
+
+add-i : tie.Need-add-i Inv-loop μ-loop
+add-i c = search needs
+
+loop-less : tie.Need-loop-less Inv-loop μ-loop
+loop-less c = search needs
+
+loop-again : tie.Need-loop-again Inv-loop μ-loop
+loop-again c = search going-more
+
+enum-told : tie.Need-enum-told Inv-loop μ-loop
+enum-told c = search needs
+
+same-length : tie.Need-same-length Inv-loop μ-loop
+same-length c = search needs
+
+returns : tie.Need-returns Inv-loop μ-loop
+returns c = search going-over
+
+same-length-2 : tie.Need-same-length-2 Inv-loop μ-loop
+same-length-2 c = search needs
+
+returns-2 : tie.Need-returns-2 Inv-loop μ-loop
+returns-2 c = search going-end
+
+pub lay-spec : {M : Type 1} → statement M
+lay-spec =
+    tie.close
+    (tie.spec
+    Inv-loop
+    μ-loop
+    count-requires
+    loop-holds
+    slot-at-requires
+    mul-base
+    add-top
+    sub-write-block
+    part-write-block-start
+    part-write-block-end
+    write-block-requires
+    enum-known-e
+    add-i
+    loop-less
+    loop-again
+    enum-told
+    same-length
+    returns
+    same-length-2
+    returns-2)

@@ -1,0 +1,25 @@
+/* numbers.c: numbers as people write them. */
+#include <stdlib.h>
+#include <string.h>
+#include <strings.h>
+
+#include "tool.h"
+
+bool take_hex(const char *text, unsigned long most, unsigned long *value)
+{
+    char *end;
+    text += strncasecmp(text, "0x", 2) == 0 ? 2 : text[0] == '$' || text[0] == '#' ? 1 : 0;
+    if (strspn(text, "0123456789abcdefABCDEF") == 0 || strlen(text) > 8)
+        return false;
+    *value = strtoul(text, &end, 16);
+    return *end == 0 && *value <= most;
+}
+
+bool take_decimal(const char *text, unsigned long most, unsigned long *value)
+{
+    char *end;
+    if (strspn(text, "0123456789") == 0 || strlen(text) > 8)
+        return false;
+    *value = strtoul(text, &end, 10);
+    return *end == 0 && *value <= most;
+}

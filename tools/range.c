@@ -1,0 +1,25 @@
+/* range.c: the part of a machine's memory that a word of the command line names. */
+#include <stdlib.h>
+#include <string.h>
+
+#include "tool.h"
+
+/* An address in the first `length` bytes of a text. */
+static bool take_address(const char *text, size_t length, unsigned long *address)
+{
+    char word[16];
+    return snprintf(word, sizeof word, "%.*s", (int)length, text) < (int)sizeof word && take_hex(word, 0xFFFF, address);
+}
+
+bool take_part(const char *text, struct part *part)
+{
+    const char *dots = strstr(text, "..");
+    part->is_range = dots != NULL;
+    if (dots == NULL) {
+        /* a number that is too long for strtoul becomes its greatest, which is no page */
+        part->page = strtoul(text, NULL, 10);
+        return text[0] != 0 && text[strspn(text, "0123456789")] == 0;
+    }
+    return take_address(text, (size_t)(dots - text), &part->first) && take_address(dots + 2, strlen(dots + 2), &part->last)
+        && part->first <= part->last;
+}
