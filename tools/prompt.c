@@ -45,6 +45,12 @@ static void begin(void)
     timer_create(CLOCK_MONOTONIC, NULL, &repeat);
     sigaction(SIGALRM, &end, NULL);
     sigaction(SIGINT, &note, NULL);
+    /* what started the tool may have had them blocked */
+    sigset_t both;
+    sigemptyset(&both);
+    sigaddset(&both, SIGALRM);
+    sigaddset(&both, SIGINT);
+    sigprocmask(SIG_UNBLOCK, &both, NULL);
     /* names may be typed in UTF-8 */
     setlocale(LC_CTYPE, "C.UTF-8");
     begin_completion();

@@ -3,11 +3,12 @@
 export XDG_STATE_HOME=$work/state
 terminal=$work/terminal
 
-# at_prompt WORDS..: the tool at a terminal, its keys from standard input; $terminal has what it showed.
+# at_prompt WORDS..: the tool at a terminal, its keys from standard input; $terminal has what it showed. No shell stays between the
+# terminal and the tool: whichever one SHELL names would be interrupted too.
 under=()
 at_prompt() {
     local status=0
-    timeout 200 script -qfec "$(printf '%q ' "${under[@]}" "$tool" "$@")" /dev/null >"$terminal.now" || status=$?
+    timeout 200 script -qfec "exec $(printf '%q ' "${under[@]}" "$tool" "$@")" /dev/null >"$terminal.now" || status=$?
     mv "$terminal.now" "$terminal"
     return "$status"
 }
@@ -104,6 +105,12 @@ late_interrupts() {
     interrupts
 }
 check "Ctrl-C is not lost where it comes before the read" late_interrupts
+
+blocked_interrupts() {
+    under=(env --block-signal=INT --block-signal=ALRM)
+    interrupts
+}
+check "Ctrl-C is heard where what started the tool had it blocked" blocked_interrupts
 
 # the place of the log is lost while the tool asks: what NAME is given is saved whole
 log_place_lost() {
