@@ -1,19 +1,16 @@
--- Contracts of private functions, by the cases of their answers: a reviewer may skip this file.
-use Prim.Native.Nat.{ℕ, _-_, _*_, _<_, _≤_}
+-- Contracts of functions that only proved code calls, by the cases of their answers: a reviewer may skip this file.
+use Prim.Native.Nat.{ℕ, _-_, _<_, _≤_}
 use mathlib.Core.Path.{_≡_}
 use mathlib.Core.Bool.{Bool}
 use mathlib.Core.List.{List}
 use lib.ListN.{length, take, drop}
-use Rattle.slices.specs.Put.{put}
 use Rattle.packed.specs.Unpacking.{answerOf, leftBy}
 use Rattle.packed.specs.declared.Unpacked.{Unpacked}
 use Rattle.pages.specs.declared.Model.{Model}
 use Rattle.numbers.specs.declared.Refusal.{Refusal}
 use Rattle.block_read.specs.declared.BlockHead.{BlockHead}
 use Rattle.block_read.specs.declared.BlockHead.the-variants.{Bad, Data}
-use Rattle.block_read.specs.declared.BlockStep.{BlockStep}
-use Rattle.block_read.specs.declared.BlockStep.the-variants.{Failed, Next}
-use Rattle.block_read.specs.Block.{refused, brought, contents, pageFrom, blockOf}
+use Rattle.block_read.specs.Block.{refused, contents, pageFrom, blockOf}
 
 -- as `Unpacks` of `packed`, with plain data too
 pub record Fills (plain : Bool) (body before after : List ℕ) (r : Unpacked) : Type 0 where
@@ -35,16 +32,3 @@ pub record BlockAt (model : Model) (seen : List Bool) (file : List ℕ) (at page
 abbrev pub HeadSays : Model → List Bool → List ℕ → ℕ → BlockHead → Type 0
 HeadSays model seen file at (Bad why) = Refuses model seen file at why
 HeadSays model seen file at (Data page start end plain) = BlockAt model seen file at page start end plain
-
--- a block that was read: its bytes stand in their page
-pub record Brings (model : Model) (seen : List Bool) (file : List ℕ) (at : ℕ) (before after : List ℕ) (page next : ℕ) : Type 0 where
-  pub page-bytes : List ℕ
-  pub block : blockOf model seen (drop at file) ≡ brought page page-bytes (drop next file)
-  pub placed : after ≡ put before (page * 16384) page-bytes
-  pub page-small : page < 8
-  pub further : at < next
-  pub within : next ≤ length file
-
-abbrev pub StepSays : Model → List Bool → List ℕ → ℕ → List ℕ → List ℕ → BlockStep → Type 0
-StepSays model seen file at before after (Failed why) = Refuses model seen file at why
-StepSays model seen file at before after (Next page next) = Brings model seen file at before after page next

@@ -1,4 +1,4 @@
-// One block of a v2 or v3 file read into its page of a lent area. Above packing, through its promise alone.
+// A block of a v2 or v3 file: its head, and its data unpacked into a page. Above packing, through its promise alone.
 use block_pages::Page;
 use numbers::Refusal;
 use packed::Unpacked;
@@ -7,7 +7,7 @@ ghost use Prim.Native.Nat.{_<_};
 ghost use mathlib.Core.Path.{_≡_};
 ghost use lib.ListN.{length};
 ghost use Rattle.block_read.specs.Block.{sizeOf};
-ghost use Rattle.block_read.specs.Inner.{Fills, HeadSays, StepSays};
+ghost use Rattle.block_read.specs.Inner.{Fills, HeadSays};
 
 // A block's head: a refusal, or where its data lie and which page they are for.
 pub enum BlockHead {
@@ -20,11 +20,6 @@ pub enum BlockHead {
     },
 }
 
-pub enum BlockStep {
-    Failed(Refusal),
-    Next { page: usize, at: usize },
-}
-
 fn size_of(n: usize) -> usize
     ensures { λ r. ⌜ r ≡ sizeOf n ⌝ }
 {
@@ -32,7 +27,7 @@ fn size_of(n: usize) -> usize
 }
 
 // The block at a place of the file: its head's own refusals, or where its data lie and which page they are for.
-fn head_at(file: &[u8], at: usize, model: Model, seen: [bool; 8]) -> BlockHead
+pub fn head_at(file: &[u8], at: usize, model: Model, seen: [bool; 8]) -> BlockHead
     requires { ⌜ at < length (now file) ⌝ }
     ensures { λ r. ⌜ HeadSays model seen (now (file .entry)) at r ⌝ }
 {
@@ -67,7 +62,7 @@ fn head_at(file: &[u8], at: usize, model: Model, seen: [bool; 8]) -> BlockHead
 }
 
 // A page from a block's data, packed or as they are. Refused, the page is all zero.
-fn fill_page(src: &[u8], plain: bool, page: &mut [u8]) -> Unpacked
+pub fn fill_page(src: &[u8], plain: bool, page: &mut [u8]) -> Unpacked
     ensures { λ r. ⌜ Fills plain (now (src .entry)) (now (page .entry)) (now (page .exit)) r ⌝ }
 {
     if plain {
@@ -79,35 +74,4 @@ fn fill_page(src: &[u8], plain: bool, page: &mut [u8]) -> Unpacked
         return Unpacked::WrongLength;
     }
     unpacking::unpack(src, page)
-}
-
-// The block at a place of the file, read into its own part of the area.
-pub fn read_block(
-    file: &[u8],
-    at: usize,
-    model: Model,
-    seen: [bool; 8],
-    area: &mut [u8],
-) -> BlockStep
-    requires { ⌜ (at < length (now file)) × (length (now area) ≡ 131072) ⌝ }
-    ensures { λ r. ⌜ StepSays model seen (now (file .entry)) at (now (area .entry)) (now (area .exit)) r ⌝ }
-{
-    match head_at(file, at, model, seen) {
-        BlockHead::Bad(why) => BlockStep::Failed(why),
-        BlockHead::Data {
-            page,
-            start,
-            end,
-            plain,
-        } => {
-            let base = page * 16384;
-            let top = base + 16384;
-            let filled = fill_page(&file[start..end], plain, &mut area[base..top]);
-            match filled {
-                Unpacked::Good => BlockStep::Next { page, at: end },
-                Unpacked::Malformed => BlockStep::Failed(Refusal::MalformedData),
-                Unpacked::WrongLength => BlockStep::Failed(Refusal::UnpackedLength),
-            }
-        }
-    }
 }

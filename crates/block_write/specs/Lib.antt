@@ -1,2 +1,1 @@
 pub mod BlockFor
-pub mod Inner

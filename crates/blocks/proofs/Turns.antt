@@ -14,12 +14,13 @@ use Rattle.numbers.specs.declared.Refusal.{Refusal}
 use Rattle.numbers.specs.declared.Refusal.the-variants.{BlockMissing}
 use Rattle.numbers.specs.declared.Answer.{Answer}
 use Rattle.numbers.specs.declared.Answer.the-variants.{Accepted}
-use Rattle.block_read.specs.declared.BlockStep.{BlockStep}
-use Rattle.block_read.specs.declared.BlockStep.the-variants.{Failed, Next}
+use Rattle.blocks.specs.declared.BlockStep.{BlockStep}
+use Rattle.blocks.specs.declared.BlockStep.the-variants.{Failed, Next}
 use Rattle.block_read.specs.Block.{Block, blockOf}
 use Rattle.blocks.specs.Blocks.{BodyResult, bodyRefused, bodyRead, ReadsBody, afterBlock, finished, blocks, noneSeen, blocksInto}
 use Rattle.block_pages.specs.Numbered.{allThere}
-use Rattle.block_read.specs.Inner.{Refuses, Brings, StepSays}
+use Rattle.block_read.specs.Inner.{Refuses}
+use Rattle.blocks.specs.Inner.{Brings, StepSays}
 
 pub record BlocksSoFar (model : Model) (file : List ℕ) (all : BodyResult) (area : List ℕ) (seen : List Bool) (at : ℕ) : Type 0 where
   pub turns : ℕ

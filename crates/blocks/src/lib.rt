@@ -1,11 +1,20 @@
 // The blocks of a v2 or v3 file read into the pages of a lent area, one after the other.
-use block_read::BlockStep;
+use block_read::BlockHead;
 use numbers::Answer;
 use numbers::Refusal;
+use packed::Unpacked;
 use pages::Model;
+ghost use Prim.Native.Nat.{_<_};
 ghost use mathlib.Core.Path.{_≡_};
 ghost use lib.ListN.{length, drop};
 ghost use Rattle.blocks.specs.Blocks.{blocksInto, bodyRefused, ReadsBody};
+ghost use Rattle.blocks.specs.Inner.{StepSays};
+
+// Where the next block begins, or a refusal.
+enum BlockStep {
+    Failed(Refusal),
+    Next { page: usize, at: usize },
+}
 
 // Block after block from a place to the end of the file. Refused, the area is all zero.
 pub fn read_blocks(file: &[u8], from: usize, model: Model, area: &mut [u8]) -> Answer
@@ -15,7 +24,7 @@ pub fn read_blocks(file: &[u8], from: usize, model: Model, area: &mut [u8]) -> A
     let mut seen = [false; 8];
     let mut at = from;
     while at < file.len() {
-        match block_read::read_block(file, at, model, seen, area) {
+        match read_block(file, at, model, seen, area) {
             BlockStep::Failed(why) => return refused_area(area, why),
             BlockStep::Next { page, at: next } => {
                 seen[page] = true;
@@ -35,4 +44,29 @@ fn refused_area(area: &mut [u8], why: Refusal) -> Answer
 {
     slices::fill(area, 0);
     Answer::Refused(why)
+}
+
+// The block at a place of the file, read into its own part of the area.
+fn read_block(file: &[u8], at: usize, model: Model, seen: [bool; 8], area: &mut [u8]) -> BlockStep
+    requires { ⌜ (at < length (now file)) × (length (now area) ≡ 131072) ⌝ }
+    ensures { λ r. ⌜ StepSays model seen (now (file .entry)) at (now (area .entry)) (now (area .exit)) r ⌝ }
+{
+    match block_read::head_at(file, at, model, seen) {
+        BlockHead::Bad(why) => BlockStep::Failed(why),
+        BlockHead::Data {
+            page,
+            start,
+            end,
+            plain,
+        } => {
+            let base = page * 16384;
+            let top = base + 16384;
+            let filled = block_read::fill_page(&file[start..end], plain, &mut area[base..top]);
+            match filled {
+                Unpacked::Good => BlockStep::Next { page, at: end },
+                Unpacked::Malformed => BlockStep::Failed(Refusal::MalformedData),
+                Unpacked::WrongLength => BlockStep::Failed(Refusal::UnpackedLength),
+            }
+        }
+    }
 }

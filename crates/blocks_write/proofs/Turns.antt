@@ -1,30 +1,33 @@
 -- The loop of `lay` over the blocks.
-use Prim.Native.Nat.{ℕ, suc, _+_, _-_, _*_, _≤_, _<_}
+use Prim.Native.Nat.{ℕ, suc, _+_, _-_, _*_, _≤_, _<_, min}
 use native.Mathlib.Numerals.{add-one}
 use native.Mathlib.Omega.{arith}
 use mathlib.Core.Path.{_≡_, refl, sym, ap, subst, _∙_}
 use mathlib.Core.List.{List, [], _∷_, _++_, append-assoc, append-nil}
-use lib.ListN.{length, take, drop, length-append, drop-of-length-le}
-use lib.Seq.{drop-cons, length-take-le}
+use lib.ListN.{length, take, drop, replicate, length-append, length-drop, drop-of-length-le}
+use lib.Seq.{drop-cons, length-take-le, take-at, take-append-add}
+use borrow.Rule.Slice.PartMut.{putMid, midOf, postOf, mid-len, same-len-mid}
+use Rattle.packed.specs.Packing.{Packs}
 use Rattle.packed.specs.declared.Fit.{Fit}
 use Rattle.packed.specs.declared.Fit.the-variants.{Length, TooShort}
 use Rattle.pages.specs.declared.Model.{Model}
 use Rattle.pages.specs.declared.Slot.{Slot}
 use Rattle.pages.specs.Pages.{slot, slots, pageIn}
 use Rattle.block_write.specs.BlockFor.{blockFor}
+use Rattle.block_write.proofs.Block.{block-most}
+use Rattle.block_write.proofs.Fits.{Standing, Over, FitSays, says, packs-stands, packs-over}
 use Rattle.blocks_write.specs.Laid.{laid}
-use Rattle.block_write.specs.Inner.{LaidDown, NoRoom, Lays}
 use Rattle.blocks_write.specs.Inner.{SlotAt}
 
--- the file's front stands in d up to `at`, and the blocks from i on are left
-pub record LaidSoFar (model : Model) (area d₀ : List ℕ) (from : ℕ) (d : List ℕ) (i at : ℕ) : Type 0 where
+-- the first blocks stand in d up to `at`, and those from i on are left
+pub record LaidSoFar (model : Model) (area d₀ d : List ℕ) (i at : ℕ) : Type 0 where
   pub few : i ≤ length (slots model)
   pub reach : at ≤ length d
   pub long : length d ≡ length d₀
-  pub same : take at d ++ laid (drop i (slots model)) area ≡ take from d₀ ++ laid (slots model) area
+  pub same : take at d ++ laid (drop i (slots model)) area ≡ laid (slots model) area
 
-pub laid-begin : (model : Model) (area d₀ : List ℕ) (from : ℕ) → from ≤ length d₀ → LaidSoFar model area d₀ from d₀ 0 from
-laid-begin model area d₀ from h = record { few = omega arith; reach = h; long = refl; same = refl }
+pub laid-begin : (model : Model) (area d₀ : List ℕ) → LaidSoFar model area d₀ d₀ 0 0
+laid-begin model area d₀ = record { few = omega arith; reach = omega arith; long = refl; same = refl }
 
 laid-cons : (x : Slot) (more : List Slot) (area : List ℕ) → laid (x ∷ more) area ≡ blockFor (x .number) (pageIn area (x .page)) ++ laid more area
 unfolding laid
@@ -38,7 +41,10 @@ laid-none area = refl
 pub page-lent : (area : List ℕ) (page : ℕ) → take (page * 16384 + 16384 - page * 16384) (drop (page * 16384) area) ≡ pageIn area page
 page-lent area page = let e : page * 16384 + 16384 - page * 16384 ≡ 16384 = omega arith in rw e
 
-module _ (model : Model) (area d₀ : List ℕ) (from : ℕ) (d : List ℕ) (i at : ℕ) (g : LaidSoFar model area d₀ from d i at) where
+page-long : (area : List ℕ) (page : ℕ) → length area ≡ 131072 → page < 8 → length (pageIn area page) ≡ 16384
+page-long area page h k = length-take-le 16384 (drop (page * 16384) area) (simp length-drop (omega arith))
+
+module _ (model : Model) (area d₀ d : List ℕ) (i at : ℕ) (g : LaidSoFar model area d₀ d i at) where
   -- the next block
   ahead : (x : Slot) → SlotAt model i x → i < length (slots model)
       → laid (drop i (slots model)) area ≡ blockFor (x .number) (pageIn area (x .page)) ++ laid (drop (i + 1) (slots model)) area
@@ -48,48 +54,70 @@ module _ (model : Model) (area d₀ : List ℕ) (from : ℕ) (d : List ℕ) (i a
       ∙ laid-cons x (drop (suc i) (slots model)) area
       ∙ ap (λ (k : ℕ). blockFor (x .number) (pageIn area (x .page)) ++ laid (drop k (slots model)) area) (sym (add-one i))
 
-  module _ (n : ℕ) (m : n ≡ length (slots model)) (h : i < n) (x : Slot) (s : SlotAt model i x) (r : Fit) (d′ : List ℕ)
-      (w : Lays (blockFor (x .number) (take (x .page * 16384 + 16384 - x .page * 16384) (drop (x .page * 16384) area))) d at r d′) where
+  module _ (n : ℕ) (m : n ≡ length (slots model)) (h : i < n) (a : length area ≡ 131072) (x : Slot) (s : SlotAt model i x) (room : ℕ)
+      (e : room ≡ min (length d - at) 16387) (r : Fit) (l : List ℕ)
+      (w : Packs (blockFor (x .number) (take (x .page * 16384 + 16384 - x .page * 16384) (drop (x .page * 16384) area))) (length (midOf at (at + room - at) d)) r l) where
     abbrev b : List ℕ
     b = blockFor (x .number) (pageIn area (x .page))
 
-    w′ : Lays b d at r d′
-    w′ = subst (λ (p : List ℕ). Lays (blockFor (x .number) p) d at r d′) (page-lent area (x .page)) w
+    part-long : length (midOf at (at + room - at) d) ≡ room
+    part-long = let f = g .reach in mid-len at (at + room) d (omega arith) ∙ (omega arith)
 
-    pub going-more : (e : ℕ) → r ≡ Length e → LaidSoFar model area d₀ from d′ (i + 1) e
-    going-more e q =
-        let l : LaidDown b d at e d′ = subst (λ (y : Fit). Lays b d at y d′) q w′ in
+    told : FitSays b room r l
+    told =
+        says b room r l
+        (subst (λ (k : ℕ). Packs b k r l) part-long (subst (λ (p : List ℕ). Packs (blockFor (x .number) p) (length (midOf at (at + room - at) d)) r l) (page-lent area (x .page)) w))
+
+    -- the output then
+    abbrev then : List ℕ
+    then = putMid at (at + room - at) d l
+
+    long-then : length l ≡ room → length then ≡ length d₀
+    long-then y = same-len-mid at (at + room - at) d l (y ∙ sym part-long) ∙ g .long
+
+    pub going-room : (k : ℕ) → r ≡ Length k → at + k ≤ length d
+    going-room k q = let f : Standing b room k l = subst (λ (y : Fit). FitSays b room y l) q told in omega (arith, f .room, g .reach)
+
+    pub going-more : (k : ℕ) → r ≡ Length k → LaidSoFar model area d₀ then (i + 1) (at + k)
+    going-more k q =
+        let f : Standing b room k l = subst (λ (y : Fit). FitSays b room y l) q told in
+        let t : length (take at d) ≡ at = length-take-le at d (g .reach) in
+        let rest : List ℕ = replicate (room - length b) 0 in
+        let past = postOf at (at + room - at) d in
+        let wrote : take (at + k) then ≡ take at d ++ b =
+        ap (λ (j : ℕ). take (j + k) then) (sym t)
+        ∙ take-append-add (take at d) (l ++ past) k
+        ∙ ap (λ (y : List ℕ). take at d ++ y)
+        (ap (λ (y : List ℕ). take k (y ++ past)) (f .there) ∙ ap (take k) (append-assoc b rest past) ∙ take-at b (rest ++ past) k (sym (f .size))) in
         record {
           few = omega arith;
-          reach = omega (arith, l .inside, l .long);
-          long = l .long ∙ g .long;
+          reach = omega (arith, long-then (f .long), f .room, g .reach, g .long);
+          long = long-then (f .long);
           same =
-              ap (λ (z : List ℕ). z ++ laid (drop (i + 1) (slots model)) area) (l .wrote)
+              ap (λ (z : List ℕ). z ++ laid (drop (i + 1) (slots model)) area) wrote
               ∙ append-assoc (take at d) b (laid (drop (i + 1) (slots model)) area)
               ∙ ap (λ (z : List ℕ). take at d ++ z) (sym (ahead x s (omega arith)))
               ∙ g .same;
         }
 
-    pub going-over : r ≡ TooShort → (f : from ≤ length d₀) → NoRoom (laid (slots model) area) d₀ from d′
-    going-over q f =
-        let o : NoRoom b d at d′ = subst (λ (y : Fit). Lays b d at y d′) q w′ in
+    pub going-over : r ≡ TooShort → (d′ : List ℕ) → d′ ≡ replicate (length then) 0 → Packs (laid (slots model) area) (length d₀) TooShort d′
+    going-over q d′ z =
+        let f : Over b room l = subst (λ (y : Fit). FitSays b room y l) q told in
         let t = laid (drop (i + 1) (slots model)) area in
         let a1 = ap length (g .same) in
         let a2 = length-append (take at d) (laid (drop i (slots model)) area) in
-        let a3 = length-append (take from d₀) (laid (slots model) area) in
         let a4 = ap length (ahead x s (omega arith)) in
         let a5 = length-append b t in
         let a6 = length-take-le at d (g .reach) in
-        let a7 = length-take-le from d₀ f in
-        record { over = omega (arith, o .over, g .long); long = o .long ∙ g .long }
+        let most = block-most (x .number) (pageIn area (x .page)) (page-long area (x .page) a (s .page-small)) in
+        packs-over (laid (slots model) area) (length d₀) d′ (omega (arith, f .over, g .long, g .reach)) (z ∙ ap (λ (k : ℕ). replicate k 0) (long-then (f .long)))
 
-  pub going-end : (n : ℕ) → n ≡ length (slots model) → n ≤ i → from ≤ length d₀ → LaidDown (laid (slots model) area) d₀ from at d
-  going-end n m h f =
-      let z : drop i (slots model) ≡ [] = drop-of-length-le (slots model) {i = i} (omega arith) in
-      let e : take at d ≡ take from d₀ ++ laid (slots model) area =
-      sym (append-nil (take at d)) ∙ ap (λ (l : List ℕ). take at d ++ l) (sym (laid-none area) ∙ ap (λ (l : List Slot). laid l area) (sym z)) ∙ g .same in
-      let a1 = ap length e in
-      let a2 = length-append (take from d₀) (laid (slots model) area) in
-      let a3 = length-take-le at d (g .reach) in
-      let a4 = length-take-le from d₀ f in
-      record { end = omega arith; inside = omega (arith, g .reach, g .long); long = g .long; wrote = e }
+  pub going-end : (n : ℕ) → n ≡ length (slots model) → n ≤ i → (d′ : List ℕ) → d′ ≡ take at d ++ replicate (length d - at) 0
+      → Packs (laid (slots model) area) (length d₀) (Length at) d′
+  going-end n m h d′ z =
+      let none : drop i (slots model) ≡ [] = drop-of-length-le (slots model) {i = i} (omega arith) in
+      let e : take at d ≡ laid (slots model) area =
+      sym (append-nil (take at d)) ∙ ap (λ (l : List ℕ). take at d ++ l) (sym (laid-none area) ∙ ap (λ (l : List Slot). laid l area) (sym none)) ∙ g .same in
+      let k : at ≡ length (laid (slots model) area) = sym (length-take-le at d (g .reach)) ∙ ap length e in
+      packs-stands (laid (slots model) area) (length d₀) d′ at k (omega (arith, g .reach, g .long))
+      (z ∙ ap (λ (l : List ℕ). l ++ replicate (length d - at) 0) e ∙ (λ j. laid (slots model) area ++ replicate (g .long j - k j) 0))

@@ -2,35 +2,42 @@
 use packed::Fit;
 use pages::Model;
 use pages::Slot;
-ghost use Prim.Native.Nat.{_≤_, _<_};
+ghost use Prim.Native.Nat.{_<_};
 ghost use mathlib.Core.Path.{_≡_};
 ghost use lib.ListN.{length};
 ghost use Rattle.pages.specs.declared.Model.the-variants.{K48, K128};
 ghost use Rattle.pages.specs.Pages.{slots};
-ghost use Rattle.block_write.specs.Inner.{Lays};
+ghost use Rattle.packed.specs.Packing.{Packs};
 ghost use Rattle.blocks_write.specs.Laid.{laid};
 ghost use Rattle.blocks_write.specs.Inner.{SlotAt};
 
-// All blocks from `from` on, and where they end.
-pub fn lay(area: &[u8], model: Model, out: &mut [u8], from: usize) -> Fit
-    requires { ⌜ (length (now area) ≡ 131072) × (from ≤ length (now out)) ⌝ }
-    ensures { λ r. ⌜ Lays (laid (slots model) (now (area .entry))) (now (out .entry)) from r (now (out .exit)) ⌝ }
+// All blocks, one after the other, with zeros after them. All zero where out is too short.
+pub fn lay(area: &[u8], model: Model, out: &mut [u8]) -> Fit
+    requires { ⌜ length (now area) ≡ 131072 ⌝ }
+    ensures { λ r. ⌜ Packs (laid (slots model) (now (area .entry))) (length (now (out .entry))) r (now (out .exit)) ⌝ }
 {
     let n = count(model);
-    let mut at = from;
+    let mut at = 0;
     let mut i = 0;
     while i < n {
         let slot = slot_at(model, i);
         let base = slot.page * 16384;
         let top = base + 16384;
-        match block_write::write_block(&area[base..top], slot.number, out, at) {
-            Fit::Length(e) => {
-                at = e;
+        // a block has 16,387 bytes at the most
+        let end = at + slices::least(out.len() - at, 16387);
+        let fit = block_write::write_block(&area[base..top], slot.number, &mut out[at..end]);
+        match fit {
+            Fit::Length(k) => {
+                at += k;
                 i += 1;
             }
-            Fit::TooShort => return Fit::TooShort,
+            Fit::TooShort => {
+                slices::fill(out, 0);
+                return Fit::TooShort;
+            }
         }
     }
+    slices::clear_from(out, at);
     Fit::Length(at)
 }
 

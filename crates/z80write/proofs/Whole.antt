@@ -3,10 +3,12 @@ use Prim.Native.Nat.{ℕ, _+_, _-_, _≤_, _<_}
 use native.Mathlib.Omega.{arith}
 use mathlib.Core.Path.{_≡_, refl, sym, ap, subst, _∙_}
 use mathlib.Core.Bool.{Bool, true, false}
-use mathlib.Core.List.{List, _++_}
+use mathlib.Core.List.{List, _++_, append-assoc, append-nil}
 use lib.ListN.{length, take, drop, replicate, length-append}
-use lib.Seq.{take-add, drop-at, take-append-add, length-take-le, length-front}
+use lib.Seq.{drop-at, drop-length, length-take-le}
 use borrow.Author.Tests.{eq-eqb, ne-eqb, le-leb, lt-leb}
+use borrow.Rule.Slice.PartMut.{putMid, midOf, postOf, mid-len, same-len-mid, post-is}
+use Rattle.packed.specs.Packing.{Packs}
 use Rattle.packed.specs.declared.Fit.{Fit}
 use Rattle.packed.specs.declared.Fit.the-variants.{Length, TooShort}
 use Rattle.spectrum.specs.declared.Machine.{Machine}
@@ -19,7 +21,7 @@ use Rattle.header_write.proofs.WriteSteps.{header-length}
 use Rattle.z80write.specs.declared.Written.{Written}
 use Rattle.blocks_write.specs.Laid.{laid}
 use Rattle.z80write.specs.Written.{fileOf, WriteResult, refusedWrite, acceptedWrite, writtenOf, Writes}
-use Rattle.block_write.specs.Inner.{LaidDown, NoRoom, Lays}
+use Rattle.block_write.proofs.Fits.{Standing, Over, FitSays, says}
 
 abbrev pub blocksOf : Machine → List ℕ → List ℕ
 blocksOf m area = laid (slots (m .model)) area
@@ -45,19 +47,6 @@ module _ (m : Machine) (area : List ℕ) (n : ℕ) (v : validOf m ≡ true) (h :
   unfolding writtenOf
   room k = rw (v, eq-eqb (length area) 131072 h, le-leb (length (fileOf m area)) n k)
 
--- what is laid from k on stands after a header of k bytes
-under-header : (ws d₀ d₁ hs : List ℕ) (k n : ℕ) → length hs ≡ k → LaidDown ws d₀ k n d₁ → take n (hs ++ drop k d₁) ≡ hs ++ ws
-under-header ws d₀ d₁ hs k n l w =
-    let a : length (take k d₁) ≡ k = length-take-le k d₁ (omega (arith, w .end, w .inside, w .long)) in
-    let b : length (take k d₀) ≡ k = length-take-le k d₀ (omega (arith, w .end, w .inside)) in
-    let e : n ≡ length hs + length ws = omega (arith, w .end) in
-    ap (λ (j : ℕ). take j (hs ++ drop k d₁)) e
-    ∙ take-append-add hs (drop k d₁) (length ws)
-    ∙ ap (λ (l : List ℕ). hs ++ l)
-    (sym (drop-at (take k d₁) (take (length ws) (drop k d₁)) k a)
-    ∙ ap (drop k) (sym (take-add k (length ws) d₁) ∙ ap (λ (j : ℕ). take j d₁) (sym (w .end)) ∙ w .wrote)
-    ∙ drop-at (take k d₀) ws k b)
-
 -- what is shown of one result holds of an equal one
 equally : {o p : WriteResult} {r : Written} {d : List ℕ} → p ≡ o → Writes o r d → Writes p r d
 equally {o} {p} {r} {d} e w = subst (λ (x : WriteResult). Writes x r d) (sym e) w
@@ -73,28 +62,40 @@ module _ (m : Machine) (area d₀ : List ℕ) (v : Bool) (u : v ≡ validOf m) w
     pub writes-front : (r : Written) (d : List ℕ) → Writes (refusedWrite OutputShort (length d₀)) r d → length d₀ < 86 → Writes (writtenOf m area (length d₀)) r d
     writes-front r d w s = equally (no-room m area (length d₀) (sym u ∙ k) h (omega (arith, file-long m area t))) w
 
-    module _ (f : Fit) (d₁ : List ℕ) (g : Lays (blocksOf m area) d₀ 86 f d₁) where
-      pub writes-short : (r : Written) (d : List ℕ) → Writes (refusedWrite OutputShort (length d₁)) r d → f ≡ TooShort → Writes (writtenOf m area (length d₀)) r d
-      writes-short r d w q =
-          let o : NoRoom (blocksOf m area) d₀ 86 d₁ = subst (λ (y : Fit). Lays (blocksOf m area) d₀ 86 y d₁) q g in
-          equally (no-room m area (length d₀) (sym u ∙ k) h (omega (arith, o .over, file-long m area t))) (subst (λ (n : ℕ). Writes (refusedWrite OutputShort n) r d) (o .long) w)
+    module _ (f : Fit) (l : List ℕ) (j : 86 ≤ length d₀) (g : Packs (blocksOf m area) (length (midOf 86 (length d₀ - 86) d₀)) f l) where
+      told : FitSays (blocksOf m area) (length d₀ - 86) f l
+      told = says (blocksOf m area) (length d₀ - 86) f l (subst (λ (n : ℕ). Packs (blocksOf m area) n f l) (mid-len 86 (length d₀) d₀ (omega arith)) g)
 
-      pub writes-file : (n : ℕ) (d₂ d : List ℕ) → f ≡ Length n → d₂ ≡ headerOf m ++ drop 86 d₁ → d ≡ take n d₂ ++ replicate (length d₂ - n) 0
-          → Writes (writtenOf m area (length d₀)) (record { answer = Accepted; length = n }) d
-      writes-file n d₂ d q x y =
-          let w : LaidDown (blocksOf m area) d₀ 86 n d₁ = subst (λ (z : Fit). Lays (blocksOf m area) d₀ 86 z d₁) q g in
+      pub blocks-room : (n : ℕ) → f ≡ Length n → 86 + n ≤ length d₀
+      blocks-room n q =
+          let w : Standing (blocksOf m area) (length d₀ - 86) n l = subst (λ (z : Fit). FitSays (blocksOf m area) (length d₀ - 86) z l) q told in
+          omega (arith, w .room)
+
+      pub writes-short : (r : Written) (d : List ℕ) → Writes (refusedWrite OutputShort (length (putMid 86 (length d₀ - 86) d₀ l))) r d → f ≡ TooShort
+          → Writes (writtenOf m area (length d₀)) r d
+      writes-short r d w q =
+          let o : Over (blocksOf m area) (length d₀ - 86) l = subst (λ (y : Fit). FitSays (blocksOf m area) (length d₀ - 86) y l) q told in
+          let same : length (putMid 86 (length d₀ - 86) d₀ l) ≡ length d₀ = same-len-mid 86 (length d₀ - 86) d₀ l (o .long ∙ sym (mid-len 86 (length d₀) d₀ (omega arith))) in
+          equally (no-room m area (length d₀) (sym u ∙ k) h (omega (arith, o .over, file-long m area t))) (subst (λ (n : ℕ). Writes (refusedWrite OutputShort n) r d) same w)
+
+      pub writes-file : (n : ℕ) (d : List ℕ) → f ≡ Length n → d ≡ headerOf m ++ drop 86 (putMid 86 (length d₀ - 86) d₀ l)
+          → Writes (writtenOf m area (length d₀)) (record { answer = Accepted; length = 86 + n }) d
+      writes-file n d q x =
+          let w : Standing (blocksOf m area) (length d₀ - 86) n l = subst (λ (z : Fit). FitSays (blocksOf m area) (length d₀ - 86) z l) q told in
           let fl = file-long m area t in
-          let hl = header-length m t in
-          let tl : length (take 86 d₁) ≡ 86 = length-take-le 86 d₁ (omega (arith, w .end, w .inside, w .long)) in
-          let same : length d₂ ≡ length d₁ = ap length x ∙ length-front d₁ (headerOf m) 86 (hl ∙ sym tl) in
-          let left : length d₂ - n ≡ length d₀ - length (fileOf m area) = omega (arith, w .end, w .long) in
-          equally (room m area (length d₀) (sym u ∙ k) h (omega (arith, w .end, w .inside)))
+          let left : length d₀ - 86 - length (blocksOf m area) ≡ length d₀ - length (fileOf m area) = omega arith in
+          let blocks : drop 86 (putMid 86 (length d₀ - 86) d₀ l) ≡ blocksOf m area ++ replicate (length d₀ - 86 - length (blocksOf m area)) 0 =
+          drop-at (take 86 d₀) (l ++ postOf 86 (length d₀ - 86) d₀) 86 (length-take-le 86 d₀ j)
+          ∙ ap (λ (z : List ℕ). l ++ z) (post-is 86 (length d₀) d₀ j ∙ drop-length d₀)
+          ∙ append-nil l
+          ∙ w .there in
+          equally (room m area (length d₀) (sym u ∙ k) h (omega (arith, w .size, w .room)))
           (record {
             answer = refl;
-            size = w .end ∙ sym fl;
+            size = omega (arith, w .size);
             memory =
-                y
-                ∙ ap (λ (l : List ℕ). take n l ++ replicate (length d₂ - n) 0) x
-                ∙ ap (λ (l : List ℕ). l ++ replicate (length d₂ - n) 0) (under-header (blocksOf m area) d₀ d₁ (headerOf m) 86 n hl w)
-                ∙ ap (λ (j : ℕ). fileOf m area ++ replicate j 0) left;
+                x
+                ∙ ap (λ (z : List ℕ). headerOf m ++ z) blocks
+                ∙ sym (append-assoc (headerOf m) (blocksOf m area) (replicate (length d₀ - 86 - length (blocksOf m area)) 0))
+                ∙ ap (λ (i : ℕ). fileOf m area ++ replicate i 0) left;
           })

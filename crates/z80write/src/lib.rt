@@ -26,13 +26,13 @@ pub fn write(m: Machine, area: &[u8], out: &mut [u8]) -> Written
             return refuse_write(out, Refusal::OutputShort);
         }
         let model = m.model;
-        match blocks_write::lay(area, model, out, 86) {
+        let fit = blocks_write::lay(area, model, &mut out[86..]);
+        match fit {
             Fit::Length(n) => {
                 header_write::write_header(m, out);
-                slices::clear_from(out, n);
                 return Written {
                     answer: Answer::Accepted,
-                    length: n,
+                    length: 86 + n,
                 };
             }
             Fit::TooShort => return refuse_write(out, Refusal::OutputShort),

@@ -1,4 +1,4 @@
-use Rattle.block_write.proofs.Block.{put-three}
+use Rattle.block_write.proofs.Block.{head-put}
 use native.Mathlib.Omega.{arith}
 use lib.ListN.{length-set}
 use borrow.Author.Needs.{needs}
@@ -14,23 +14,17 @@ slice-write-out c = search needs
 cast-out-2 : tie.Need-cast-out-2
 cast-out-2 c = search needs
 
-add-out : tie.Need-add-out
-add-out c = search needs
-
 slice-write-out-2 : tie.Need-slice-write-out-2
 slice-write-out-2 c = simp length-set (omega arith)
 
-add-out-2 : tie.Need-add-out-2
-add-out-2 c = search needs
-
 slice-write-out-3 : tie.Need-slice-write-out-3
-slice-write-out-3 c = simp length-set (omega arith)
+slice-write-out-3 c = search needs
 
 same-length : tie.Need-same-length
 same-length c = search needs
 
 returns : tie.Need-returns
-returns c = search put-three
+returns c = search head-put
 
 pub put-head-spec : {M : Type 1} → statement M
 put-head-spec =
@@ -39,9 +33,7 @@ put-head-spec =
     cast-out
     slice-write-out
     cast-out-2
-    add-out
     slice-write-out-2
-    add-out-2
     slice-write-out-3
     same-length
     returns)

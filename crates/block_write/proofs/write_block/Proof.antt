@@ -1,18 +1,22 @@
-use Prim.Native.Nat.{_≤_, _<_}
-use Rattle.block_write.proofs.Block.{no-head, head-room, head-small, fits-room, laid-packed, no-block, laid-plain}
+use denote.Ref.{now}
+use Rattle.block_write.proofs.Block.{no-head, packed-room, laid-packed, no-block, laid-plain}
+use Prim.Native.Nat.{_≤_}
 use native.Mathlib.Omega.{arith}
 use borrow.Author.Needs.{needs}
 use Rattle.block_write.proofs.write_block.Statement.{statement}
 use Rattle.block_write.proofs.write_block.Tie as tie
 
-sub-room : tie.Need-sub-room
-sub-room c = search needs
+fill-requires : tie.Need-fill-requires
+fill-requires c κs = search needs
+
+same-length : tie.Need-same-length
+same-length c = search needs
 
 returns : tie.Need-returns
 returns c = search no-head
 
-add-start : tie.Need-add-start
-add-start c = search needs
+sub-room : tie.Need-sub-room
+sub-room c = search needs
 
 least-requires : tie.Need-least-requires
 least-requires c κs = search needs
@@ -20,32 +24,45 @@ least-requires c κs = search needs
 add-end : tie.Need-add-end
 add-end c = search needs
 
-pack-at-requires : tie.Need-pack-at-requires
-pack-at-requires c κs = search needs
+sub-pack : tie.Need-sub-pack
+sub-pack c = search needs
 
-enum-known-n : tie.Need-enum-known-n
-enum-known-n c = search needs
+part-pack-start : tie.Need-part-pack-start
+part-pack-start c = search needs
+
+part-pack-end : tie.Need-part-pack-end
+part-pack-end c = search needs
+
+pack-requires : tie.Need-pack-requires
+pack-requires c κs = search needs
+
+enum-known-fit : tie.Need-enum-known-fit
+enum-known-fit c = search needs
 
 put-head-requires : tie.Need-put-head-requires
-put-head-requires c κs = (search head-room, search head-small)
+put-head-requires c κs = let h : c .before .before .fit .given .0 .0 ≤ c .before .before .before .before .before .before .before .before .least .result = search packed-room in (search needs, omega arith)
 
-add-t18 : tie.Need-add-t18
-add-t18 c = let h : c .before .before .before .before .before .n .given .0 .0 ≤ c .before .before .before .before .before .before .before .before .before .before .before .least .result = search fits-room in omega arith
+clear-from-requires : tie.Need-clear-from-requires
+clear-from-requires c κs = search needs
 
-same-length : tie.Need-same-length
-same-length c = search needs
+add-t21 : tie.Need-add-t21
+add-t21 c = let h : c .before .before .before .before .before .before .before .before .before .fit .given .0 .0 ≤ c .before .before .before .before .before .before .before .before .before .before .before .before .before .before .before .least .result = search packed-room in omega arith
+
+same-length-2 : tie.Need-same-length-2
+same-length-2 c = search needs
 
 returns-2 : tie.Need-returns-2
 returns-2 c =
-    let h : c .before .before .before .before .before .n .given .0 .0 ≤ c .before .before .before .before .before .before .before .before .before .before .before .least .result = search fits-room in
-    let small : c .before .before .before .before .before .n .given .0 .0 < 16384 = omega arith in
-    search laid-packed
+    laid-packed _ _ (now (c .before .before .before .before .before .before .before .before .before .before .before .before .before .before .before .before .before .before .before .args .out)) (c .before .before .before .before .before .before .before .before .before .before .before .before .before .before .before .before .before .before .before .pre) _ _ _ (search needs) (c .before .before .before .before .before .before .before .before .before .before .before .before .before .before .before .least .ensures) (c .before .before .before .before .before .before .before .before .before .before .before .before .before .pack .ensures) _ _ _ (c .before .before .before .before .before .before .before .before .before .fit .given .1) (c .before .before .before .before .before .before .put-head .ensures) (c .before .before .clear-from .ensures)
 
 enum-told : tie.Need-enum-told
 enum-told c = search needs
 
-same-length-2 : tie.Need-same-length-2
-same-length-2 c = search needs
+fill-requires-2 : tie.Need-fill-requires-2
+fill-requires-2 c κs = search needs
+
+same-length-3 : tie.Need-same-length-3
+same-length-3 c = search needs
 
 returns-3 : tie.Need-returns-3
 returns-3 c = search no-block
@@ -56,11 +73,11 @@ put-head-requires-2 c κs = search needs
 put-at-requires : tie.Need-put-at-requires
 put-at-requires c κs = search needs
 
-add-t19 : tie.Need-add-t19
-add-t19 c = search needs
+clear-from-requires-2 : tie.Need-clear-from-requires-2
+clear-from-requires-2 c κs = search needs
 
-same-length-3 : tie.Need-same-length-3
-same-length-3 c = search needs
+same-length-4 : tie.Need-same-length-4
+same-length-4 c = search needs
 
 returns-4 : tie.Need-returns-4
 returns-4 c = search laid-plain
@@ -69,22 +86,28 @@ pub write-block-spec : {M : Type 1} → statement M
 write-block-spec =
     tie.close
     (tie.spec
-    sub-room
+    fill-requires
+    same-length
     returns
-    add-start
+    sub-room
     least-requires
     add-end
-    pack-at-requires
-    enum-known-n
+    sub-pack
+    part-pack-start
+    part-pack-end
+    pack-requires
+    enum-known-fit
     put-head-requires
-    add-t18
-    same-length
+    clear-from-requires
+    add-t21
+    same-length-2
     returns-2
     enum-told
-    same-length-2
+    fill-requires-2
+    same-length-3
     returns-3
     put-head-requires-2
     put-at-requires
-    add-t19
-    same-length-3
+    clear-from-requires-2
+    same-length-4
     returns-4)

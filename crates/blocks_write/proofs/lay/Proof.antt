@@ -1,14 +1,14 @@
-use borrow.Author.Needs.{needs}
-use Rattle.blocks_write.proofs.Turns.{LaidSoFar, laid-begin, going-more, going-over, going-end}
 use Prim.Native.Nat.{_-_}
+use borrow.Author.Needs.{needs}
+use Rattle.blocks_write.proofs.Turns.{LaidSoFar, laid-begin, going-room, going-more, going-over, going-end}
 use Rattle.blocks_write.proofs.lay.Statement.{statement}
 use Rattle.blocks_write.proofs.lay.Tie as tie
 
 abbrev Inv-loop : tie.InvT-loop
-Inv-loop area model out₀ from n at₀ i₀ out at i = LaidSoFar model area out₀ from out i at
+Inv-loop area model out₀ n at₀ i₀ out at i = LaidSoFar model area out₀ out i at
 
 abbrev μ-loop : tie.MeasureT-loop
-μ-loop area model out₀ from n at₀ i₀ out at i = n - i
+μ-loop area model out₀ n at₀ i₀ out at i = n - i
 
 count-requires : tie.Need-count-requires Inv-loop μ-loop
 count-requires c κs = search needs
@@ -25,6 +25,15 @@ mul-base c = search needs
 add-top : tie.Need-add-top Inv-loop μ-loop
 add-top c = search needs
 
+sub-least : tie.Need-sub-least Inv-loop μ-loop
+sub-least c = search needs
+
+least-requires : tie.Need-least-requires Inv-loop μ-loop
+least-requires c κs = search needs
+
+add-end : tie.Need-add-end Inv-loop μ-loop
+add-end c = search needs
+
 sub-write-block : tie.Need-sub-write-block Inv-loop μ-loop
 sub-write-block c = search needs
 
@@ -34,11 +43,25 @@ part-write-block-start c = search needs
 part-write-block-end : tie.Need-part-write-block-end Inv-loop μ-loop
 part-write-block-end c = search needs
 
+sub-write-block-2 : tie.Need-sub-write-block-2 Inv-loop μ-loop
+sub-write-block-2 c = search needs
+
+part-write-block-start-2 : tie.Need-part-write-block-start-2 Inv-loop μ-loop
+part-write-block-start-2 c = search needs
+
+part-write-block-end-2 : tie.Need-part-write-block-end-2 Inv-loop μ-loop
+part-write-block-end-2 c = search needs
+
 write-block-requires : tie.Need-write-block-requires Inv-loop μ-loop
 write-block-requires c κs = search needs
 
-enum-known-e : tie.Need-enum-known-e Inv-loop μ-loop
-enum-known-e c = search needs
+enum-known-fit : tie.Need-enum-known-fit Inv-loop μ-loop
+enum-known-fit c = search needs
+
+add-at : tie.Need-add-at Inv-loop μ-loop
+add-at c =
+    let h = going-room _ _ _ _ _ _ (c .before .before .before .before .before .before .before .before .before .before .before .before .loop .inv) _ (c .before .before .before .before .before .before .before .before .before .before .before .before .before .count .ensures) (c .before .before .before .before .before .before .before .before .before .before .before .loop-test .taken) (c .before .before .before .before .before .before .before .before .before .before .before .before .before .before .before .before .pre) _ (c .before .before .before .before .before .before .before .before .before .before .slot-at .ensures) _ (c .before .before .before .before .before .before .before .before .least .ensures) _ _ (c .before .before .before .before .before .write-block .ensures) _ (c .before .fit .given .1) in
+    search needs
 
 add-i : tie.Need-add-i Inv-loop μ-loop
 add-i c = search needs
@@ -47,16 +70,23 @@ loop-less : tie.Need-loop-less Inv-loop μ-loop
 loop-less c = search needs
 
 loop-again : tie.Need-loop-again Inv-loop μ-loop
-loop-again c = search going-more
+loop-again c =
+    going-more _ _ _ _ _ _ (c .before .before .before .before .before .before .before .before .before .before .before .before .loop .inv) _ (c .before .before .before .before .before .before .before .before .before .before .before .before .before .count .ensures) (c .before .before .before .before .before .before .before .before .before .before .before .loop-test .taken) (c .before .before .before .before .before .before .before .before .before .before .before .before .before .before .before .before .pre) _ (c .before .before .before .before .before .before .before .before .before .before .slot-at .ensures) _ (c .before .before .before .before .before .before .before .before .least .ensures) _ _ (c .before .before .before .before .before .write-block .ensures) _ (c .before .fit .given .1)
 
 enum-told : tie.Need-enum-told Inv-loop μ-loop
 enum-told c = search needs
+
+fill-requires : tie.Need-fill-requires Inv-loop μ-loop
+fill-requires c κs = search needs
 
 same-length : tie.Need-same-length Inv-loop μ-loop
 same-length c = search needs
 
 returns : tie.Need-returns Inv-loop μ-loop
 returns c = search going-over
+
+clear-from-requires : tie.Need-clear-from-requires Inv-loop μ-loop
+clear-from-requires c κs = search needs
 
 same-length-2 : tie.Need-same-length-2 Inv-loop μ-loop
 same-length-2 c = search needs
@@ -75,16 +105,25 @@ lay-spec =
     slot-at-requires
     mul-base
     add-top
+    sub-least
+    least-requires
+    add-end
     sub-write-block
     part-write-block-start
     part-write-block-end
+    sub-write-block-2
+    part-write-block-start-2
+    part-write-block-end-2
     write-block-requires
-    enum-known-e
+    enum-known-fit
+    add-at
     add-i
     loop-less
     loop-again
     enum-told
+    fill-requires
     same-length
     returns
+    clear-from-requires
     same-length-2
     returns-2)

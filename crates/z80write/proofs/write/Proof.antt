@@ -1,4 +1,7 @@
-use Rattle.z80write.proofs.Whole.{writes-invalid, writes-area, writes-front, writes-short, writes-file}
+use Prim.Native.Nat.{_+_, _≤_}
+use denote.Ref.{now}
+use lib.ListN.{length}
+use Rattle.z80write.proofs.Whole.{writes-invalid, writes-area, writes-front, blocks-room, writes-short, writes-file}
 use borrow.Author.Needs.{needs}
 use Rattle.z80write.proofs.write.Statement.{statement}
 use Rattle.z80write.proofs.write.Tie as tie
@@ -27,17 +30,26 @@ same-length-2 c = search needs
 returns-2 : tie.Need-returns-2
 returns-2 c = search writes-front
 
+sub-lay : tie.Need-sub-lay
+sub-lay c = search needs
+
+part-lay-start : tie.Need-part-lay-start
+part-lay-start c = search needs
+
+part-lay-end : tie.Need-part-lay-end
+part-lay-end c = search needs
+
 lay-requires : tie.Need-lay-requires
 lay-requires c κs = search needs
 
-enum-known-n : tie.Need-enum-known-n
-enum-known-n c = search needs
+enum-known-fit : tie.Need-enum-known-fit
+enum-known-fit c = search needs
 
 write-header-requires : tie.Need-write-header-requires
 write-header-requires c κs = search needs
 
-clear-from-requires : tie.Need-clear-from-requires
-clear-from-requires c κs = search needs
+add-t24 : tie.Need-add-t24
+add-t24 c = let h : 86 + c .before .before .before .before .before .fit .given .0 .0 ≤ length (now (c .before .before .before .before .before .before .before .before .before .before .before .before .before .before .before .before .before .before .args .out)) = search blocks-room in search needs
 
 same-length-3 : tie.Need-same-length-3
 same-length-3 c = search needs
@@ -78,10 +90,13 @@ write-spec =
     refuse-write-requires-2
     same-length-2
     returns-2
+    sub-lay
+    part-lay-start
+    part-lay-end
     lay-requires
-    enum-known-n
+    enum-known-fit
     write-header-requires
-    clear-from-requires
+    add-t24
     same-length-3
     returns-3
     enum-told

@@ -1,9 +1,9 @@
 use native.Mathlib.Omega.{arith}
 use Prim.Native.Nat.{_<_}
-use Rattle.block_read.proofs.Heads.{head-refuses, page-below, data-ordered, data-within, brings, malformed-block, wrong-block}
+use Rattle.blocks.proofs.Steps.{head-refuses, page-below, data-ordered, data-within, brings, malformed-block, wrong-block}
 use borrow.Author.Needs.{needs}
-use Rattle.block_read.proofs.read_block.Statement.{statement}
-use Rattle.block_read.proofs.read_block.Tie as tie
+use Rattle.blocks.proofs.read_block.Statement.{statement}
+use Rattle.blocks.proofs.read_block.Tie as tie
 
 head-at-requires : tie.Need-head-at-requires
 head-at-requires c κs = search needs
