@@ -1,26 +1,34 @@
 -- Contracts of functions that only proved code calls, what one step of a loop leaves: a reviewer may skip this file.
-use Prim.Native.Nat.{ℕ, _+_, _<_}
+use Prim.Native.Nat.{ℕ, _+_, _<_, _≤_}
 use mathlib.Core.Path.{_≡_}
 use mathlib.Core.Bool.{Bool, true}
 use mathlib.Core.List.{List}
 use lib.Count.{trailingZeros}
 use lib.ListN.{take, drop, getD}
+use lib.Dec.{ltb}
 use Rattle.flags.specs.Places.{Seen, Ahead}
-use Rattle.stores.specs.Stored.{Stored}
+use Rattle.slices.specs.Choose.{choose}
+use Rattle.slices.specs.Put.{put}
 use Rattle.packed.specs.Packed.{pair, unpacked}
-use Rattle.packed.specs.Inner.{Copied}
+use Rattle.packed.specs.Inner.{Verbatim}
 
 -- whether ED ED stands at p
 abbrev pub pairAt : List ℕ → ℕ → Bool
 pairAt s p = pair (getD s p 0) (getD s (p + 1) 0)
 
--- m flags ED ED in 16 bytes of s from i on, which were written over d₀ from o on
+-- m flags ED ED in 16 bytes of s from i on, which are stored
 pub record Copied16 (s : List ℕ) (i : ℕ) (d₀ : List ℕ) (o m : ℕ) (d : List ℕ) : Type 0 where
   pub seen : Seen (pairAt s) i 16 m
-  pub stored : Stored d₀ o (take 16 (drop i s)) d
+  pub stored : d ≡ put d₀ o (take 16 (drop i s))
 
--- m flags ED ED from i on: the bytes before the first one are copied, or 64 where it flags none
-pub record Looked (s : List ℕ) (i : ℕ) (d₀ : List ℕ) (o m : ℕ) (d : List ℕ) : Type 0 where
+-- how many bytes a look stores: 16 where the next ED ED is nearer than that, and 64
+abbrev pub reachOf : ℕ → ℕ
+reachOf seen = choose (ltb (trailingZeros 64 seen) 16) 16 64
+
+-- m flags ED ED from i on: the bytes before the first one stand for themselves, or 64 where it flags none
+pub record Looked (s : List ℕ) (i : ℕ) (d₀ : List ℕ) (o seen m : ℕ) (d : List ℕ) : Type 0 where
   pub ahead : Ahead (pairAt s) i m
-  pub part : Copied unpacked s i d₀ o (trailingZeros 64 m) d
+  pub part : Verbatim unpacked s i (trailingZeros 64 m)
   pub code : trailingZeros 64 m < 64 → true ≡ pairAt s (i + trailingZeros 64 m)
+  pub reach : trailingZeros 64 m ≤ reachOf seen
+  pub stored : d ≡ put d₀ o (take (reachOf seen) (drop i s))

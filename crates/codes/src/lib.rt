@@ -10,7 +10,7 @@ ghost use Rattle.codes.specs.Inner.{pairAt, Looked, Copied16};
 // stored into dst from o on.
 pub fn look(src: &[u8], i: usize, dst: &mut [u8], o: usize, seen: u64) -> u64
     requires { ⌜ (i + 65 ≤ length (now src)) × ((o + 64 ≤ length (now dst)) × Ahead (pairAt (now src)) i seen) ⌝ }
-    ensures { λ r. ⌜ Looked (now (src .entry)) i (now (dst .entry)) o r (now (dst .exit)) ⌝ }
+    ensures { λ r. ⌜ Looked (now (src .entry)) i (now (dst .entry)) o seen r (now (dst .exit)) ⌝ }
 {
     if flags::first(seen) < 16 {
         slices::put16(dst, o, &slices::part16(src, i));

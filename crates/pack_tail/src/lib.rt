@@ -3,15 +3,18 @@ use packed::Fit;
 use runs::run_at;
 ghost use Prim.Native.Nat.{_+_, _≤_, _<_};
 ghost use mathlib.Core.List.{_∷_, [], _++_};
-ghost use lib.ListN.{length, take, drop};
-ghost use Rattle.stores.specs.Stored.{Stored};
+ghost use mathlib.Core.Path.{_≡_};
+ghost use lib.ListN.{length, take, drop, replicate};
+ghost use Rattle.slices.specs.Put.{put};
 ghost use Rattle.packed.specs.Packed.{packed};
-ghost use Rattle.packed.specs.Inner.{PackedInto};
+ghost use Rattle.packed.specs.Packing.{Packs};
+ghost use Rattle.packed.specs.declared.Fit.the-variants.{TooShort};
 
-// The rest of src packed, from `from` on, into dst from `at` on. Where the answer is a length, dst begins with what stands before `at` and the rest packed.
+// The rest of src packed, from `from` on, into dst from `at` on, after what stands before `at`, and zeros after it; dst is all zero
+// where it is too short.
 pub fn pack_rest(src: &[u8], from: usize, dst: &mut [u8], at: usize) -> Fit
     requires { ⌜ (from ≤ length (now src)) × (at ≤ length (now dst)) ⌝ }
-    ensures { λ r. ⌜ PackedInto (take at (now (dst .entry)) ++ packed (drop from (now (src .entry)))) (now (dst .entry)) r (now (dst .exit)) ⌝ }
+    ensures { λ r. ⌜ Packs (take at (now (dst .entry)) ++ packed (drop from (now (src .entry)))) (length (now (dst .entry))) r (now (dst .exit)) ⌝ }
 {
     let mut i = from;
     let mut o = at;
@@ -21,21 +24,21 @@ pub fn pack_rest(src: &[u8], from: usize, dst: &mut [u8], at: usize) -> Fit
         if v == 237 {
             if 2 <= n {
                 if dst.len() < o + 4 {
-                    return Fit::TooShort;
+                    return too_short(dst);
                 }
                 put_run(dst, o, n, v);
                 o += 4;
                 i += n;
             } else if i + 1 < src.len() {
                 if dst.len() < o + 2 {
-                    return Fit::TooShort;
+                    return too_short(dst);
                 }
                 stores::put_two(dst, o, v, src[i + 1]);
                 o += 2;
                 i += 2;
             } else {
                 if dst.len() <= o {
-                    return Fit::TooShort;
+                    return too_short(dst);
                 }
                 stores::put_one(dst, o, v);
                 o += 1;
@@ -43,7 +46,7 @@ pub fn pack_rest(src: &[u8], from: usize, dst: &mut [u8], at: usize) -> Fit
             }
         } else if 5 <= n {
             if dst.len() < o + 4 {
-                return Fit::TooShort;
+                return too_short(dst);
             }
             put_run(dst, o, n, v);
             o += 4;
@@ -51,20 +54,28 @@ pub fn pack_rest(src: &[u8], from: usize, dst: &mut [u8], at: usize) -> Fit
         } else {
             let e = o + n;
             if dst.len() < e {
-                return Fit::TooShort;
+                return too_short(dst);
             }
             stores::fill_run(dst, o, n, v);
             o = e;
             i += n;
         }
     }
+    slices::clear_from(dst, o);
     Fit::Length(o)
+}
+
+fn too_short(dst: &mut [u8]) -> Fit
+    ensures { λ r. ⌜ (r ≡ TooShort) × (now (dst .exit) ≡ replicate (length (now (dst .entry))) 0) ⌝ }
+{
+    slices::fill(dst, 0);
+    Fit::TooShort
 }
 
 // The code of a run.
 pub fn put_run(dst: &mut [u8], o: usize, n: usize, v: u8)
     requires { ⌜ (o + 4 ≤ length (now dst)) × (n < 256) ⌝ }
-    ensures { λ _. ⌜ Stored (now (dst .entry)) o (237 ∷ 237 ∷ n ∷ v ∷ []) (now (dst .exit)) ⌝ }
+    ensures { λ _. ⌜ now (dst .exit) ≡ put (now (dst .entry)) o (237 ∷ 237 ∷ n ∷ v ∷ []) ⌝ }
 {
     dst[o] = 237;
     dst[o + 1] = 237;

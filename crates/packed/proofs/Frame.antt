@@ -7,9 +7,9 @@ use mathlib.Core.List.{List, [], _∷_, _++_, append-assoc}
 use lib.ListN.{length, take, drop, length-drop}
 use lib.Seq.{drop-drop, length-take-le}
 use Rattle.packed.specs.Packed.{Found, malformed, bytes, before}
-use Rattle.packed.specs.Inner.{Copied}
-use Rattle.stores.specs.Stored.{Stored}
-use Rattle.stores.proofs.Written.{put-front}
+use Rattle.packed.specs.Inner.{Verbatim}
+use Rattle.slices.specs.Put.{put}
+use Rattle.stores.proofs.Written.{Stored, put-front}
 
 pub before-nil : (u : Found) → before [] u ≡ u
 before-nil malformed = refl
@@ -49,12 +49,12 @@ module _ (f : List ℕ → Found) (u : Found) (s d₀ d : List ℕ) (i o : ℕ) 
             ∙ ap (λ (z : List ℕ). before z (f (drop j s))) (sym (p .wrote) ∙ ap (λ (m : ℕ). take m d′) e);
       }
 
-  -- bytes that stand for themselves
-  pub copied : (k : ℕ) → Copied f s i d o k d′ → o + k ≤ length d → Frame f u s d₀ d′ (i + k) (o + k)
-  copied k p h =
-      onward (take k (drop i s)) (i + k) (o + k) (record { step = p .step; inside = p .inside }) (p .stored)
+  -- bytes that stand for themselves, and more that were stored after them
+  pub copied : (k n : ℕ) → Verbatim f s i k → k ≤ n → i + n ≤ length s → o + n ≤ length d → d′ ≡ put d o (take n (drop i s)) → Frame f u s d₀ d′ (i + k) (o + k)
+  copied k n p few hs hd e =
+      onward (take k (drop i s)) (i + k) (o + k) (record { step = p .step; inside = p .inside }) (put-front s i d o n k d′ e few hs hd)
       (ap (λ (n : ℕ). o + n) (length-take-le k (drop i s) (simp length-drop (omega (arith, p .inside)))))
-      h
+      (omega arith)
 
 -- bytes that stand for themselves one by one do together
 stretch : (f : List ℕ → Found) (plain : List ℕ → Type 0) → ((x : ℕ) (xs : List ℕ) → plain (x ∷ xs) → f (x ∷ xs) ≡ before (x ∷ []) (f xs))
@@ -66,13 +66,10 @@ stretch f plain one (x ∷ xs) (suc k) h n =
     ∙ ap (before (x ∷ [])) (stretch f plain one xs k (le-of-suc-le-suc h) (λ j g. n (suc j) (suc-le-suc-iff .1 g)))
     ∙ before-before (x ∷ []) (take k xs) (f (drop k xs))
 
--- of n bytes that were copied, the first k do
-pub copied-part : (f : List ℕ → Found) (plain : List ℕ → Type 0) → ((x : ℕ) (xs : List ℕ) → plain (x ∷ xs) → f (x ∷ xs) ≡ before (x ∷ []) (f xs))
-    → (s : List ℕ) (i : ℕ) (d : List ℕ) (o n k : ℕ) (d′ : List ℕ) → Stored d o (take n (drop i s)) d′ → k ≤ n → i + n ≤ length s → o + n ≤ length d
-    → ((j : ℕ) → j < k → plain (drop (i + j) s)) → Copied f s i d o k d′
-copied-part f plain one s i d o n k d′ p few hs hd c =
+pub verbatim : (f : List ℕ → Found) (plain : List ℕ → Type 0) → ((x : ℕ) (xs : List ℕ) → plain (x ∷ xs) → f (x ∷ xs) ≡ before (x ∷ []) (f xs))
+    → (s : List ℕ) (i k : ℕ) → i + k ≤ length s → ((j : ℕ) → j < k → plain (drop (i + j) s)) → Verbatim f s i k
+verbatim f plain one s i k h c =
     record {
-      inside = omega arith;
+      inside = h;
       step = rw drop-drop at (stretch f plain one (drop i s) k (simp length-drop (omega arith)) (λ j h. rw drop-drop (c j h)));
-      stored = put-front s i d o n k d′ p few hs hd;
     }

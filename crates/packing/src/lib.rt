@@ -7,29 +7,11 @@ use stretches::copy16;
 ghost use lib.ListN.{length};
 ghost use Rattle.packed.specs.Packed.{packed};
 ghost use Rattle.packed.specs.Packing.{Packs};
-ghost use Rattle.packed.specs.Inner.{PackedInto};
 
-// src packed into dst, with zeros after it; all zero where dst is too short.
+// src packed into dst, with zeros after it; all zero where dst is too short. While there is much of both, 16 bytes at a time are
+// stored up to where a code may begin, seen by 4 bytes more, and 4 bytes for the code.
 pub fn pack(src: &[u8], dst: &mut [u8]) -> Fit
     ensures { λ r. ⌜ Packs (packed (now (src .entry))) (length (now (dst .entry))) r (now (dst .exit)) ⌝ }
-{
-    let r = pack_into(src, dst);
-    match r {
-        Fit::Length(n) => {
-            slices::clear_from(dst, n);
-            return Fit::Length(n);
-        }
-        Fit::TooShort => {
-            slices::clear_from(dst, 0);
-            return Fit::TooShort;
-        }
-    }
-}
-
-// The loop, while there is much of both: 16 bytes at a time up to where a code may begin, seen by 4 bytes more, and 4 bytes
-// for the code. Where the answer is a length, dst begins with src packed.
-fn pack_into(src: &[u8], dst: &mut [u8]) -> Fit
-    ensures { λ r. ⌜ PackedInto (packed (now (src .entry))) (now (dst .entry)) r (now (dst .exit)) ⌝ }
 {
     let mut i: usize = 0;
     let mut o: usize = 0;
@@ -62,7 +44,7 @@ fn pack_into(src: &[u8], dst: &mut [u8]) -> Fit
                 i = p + n;
                 o = q + 4;
             } else {
-                stores::put_short(dst, q, n, v);
+                stores::put_four(dst, q, v);
                 i = p + n;
                 o = q + n;
             }

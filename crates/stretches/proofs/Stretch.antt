@@ -17,13 +17,12 @@ use Rattle.flags.proofs.Weights.{never, neither}
 use Rattle.flags.proofs.Places.{seen-flags, seen-clear, seen-first, seen-after, ahead-none}
 use Rattle.packed.specs.Packed.{bytes, front, packed}
 use Rattle.packed.specs.Packed.Steps.{plain-code}
-use Rattle.packed.specs.Inner.{Copied, packedAs}
+use Rattle.packed.specs.Inner.{Verbatim, packedAs}
 use Rattle.runs.specs.Inner.{unlikeAt}
 use Rattle.stretches.specs.Inner.{mayCode, Stopped}
-use Rattle.stores.specs.Stored.{Stored}
-use Rattle.stores.proofs.Written.{at-block, put-16, put-more, put-front}
+use Rattle.stores.proofs.Written.{at-block, put-over}
 use Rattle.runs.proofs.RunLength.{front-at}
-use Rattle.packed.proofs.Frame.{copied-part}
+use Rattle.packed.proofs.Frame.{verbatim}
 
 -- where no code may begin, a byte packs to itself
 few : (x : ℕ) (xs : List ℕ) → mayCode x (getD xs 0 0) (getD xs 3 0) ≡ false → front x xs < 4
@@ -47,11 +46,11 @@ mayCodeAt s p = mayCode (getD s p 0) (getD s (p + 1) 0) (getD s (p + 4) 0)
 module _ (s : List ℕ) (i : ℕ) (d d₁ d₂ : List ℕ) (o : ℕ) (b n f : List ℕ) (cu cs : List Bool) (u m : ℕ) (hs : i + 20 ≤ length s) (hd : o + 17 ≤ length d)
     (eb : b ≡ take 16 (drop i s)) (e₁ : d₁ ≡ put d o b) (en : n ≡ take 16 (drop (i + 1) s)) (gu : Flagged (λ j. not (eqb (getD b j 0) (getD n j 0))) cu 16) (eu : u ≡ weight cu)
     (e₂ : d₂ ≡ put d₁ (o + 1) n) (ef : f ≡ take 16 (drop (i + 4) s)) (gs : Flagged (λ j. mayCode (getD b j 0) (getD n j 0) (getD f j 0)) cs 16) (em : m ≡ weight cs) where
-  stored : Stored d o (take 17 (drop i s)) d₂
+  stored : d₂ ≡ put d o (take 17 (drop i s))
   stored =
-      let p = put-16 s i b d d₁ o (omega arith) (omega arith) eb e₁ in
-      put-more s i d d₁ d₂ o 1 16 (omega arith) (put-front s i d o 16 1 d₁ p (omega arith) (omega arith) (omega arith))
-      (put-16 s (i + 1) n d₁ d₂ (o + 1) (omega arith) (omega (arith, p .long)) en e₂)
+      e₂ ∙ ap (put d₁ (o + 1)) en
+      ∙ ap (λ (l : List ℕ). put l (o + 1) (take 16 (drop (i + 1) s))) (e₁ ∙ ap (put d o) eb)
+      ∙ put-over s i d o 1 15 16 (omega arith) (omega arith) (omega arith)
 
   next-at : (j : ℕ) → j < 16 → getD n j 0 ≡ getD s (i + j + 1) 0
   next-at j h = at-block s n (i + 1) j en h ∙ ap (λ (x : ℕ). getD s x 0) (omega arith)
@@ -67,13 +66,13 @@ module _ (s : List ℕ) (i : ℕ) (d d₁ d₂ : List ℕ) (o : ℕ) (b n f : Li
       seen-flags (mayCodeAt s) _ i cs m gs em
       (λ j h. (λ z. mayCode (at-block s b i j eb h z) (next-at j h z) (fourth-at j h z)))
 
-  part : (k : ℕ) → k ≤ 16 → ((j : ℕ) → j < k → mayCodeAt s (i + j) ≡ false) → Copied packedAs s i d o k d₂
+  part : (k : ℕ) → k ≤ 16 → ((j : ℕ) → j < k → mayCodeAt s (i + j) ≡ false) → Verbatim packedAs s i k
   part k few c =
-      copied-part packedAs (λ (l : List ℕ). mayCode (getD l 0 0) (getD l 1 0) (getD l 4 0) ≡ false) one-plain s i d o 17 k d₂ stored (omega arith) (omega arith) hd
+      verbatim packedAs (λ (l : List ℕ). mayCode (getD l 0 0) (getD l 1 0) (getD l 4 0) ≡ false) one-plain s i k (omega arith)
       (λ j h. rw (getD-drop (i + j) s 0 0, getD-drop (i + j) s 1 0, getD-drop (i + j) s 4 0, add-zero (i + j)) (c j h))
 
   pub stopped-none : m ≡ 0 → Stopped s i d o 16 0 d₂
-  stopped-none z = record { few = omega arith; part = part 16 (omega arith) (seen-clear (mayCodeAt s) i 16 m stops z); unlike = ahead-none (unlikeAt s) (i + 16) }
+  stopped-none z = record { few = omega arith; part = part 16 (omega arith) (seen-clear (mayCodeAt s) i 16 m stops z); unlike = ahead-none (unlikeAt s) (i + 16); stored = stored }
 
   pub stop-few : (m ≡ 0 → ⊥) → (k : ℕ) → k ≡ trailingZeros 64 m → k < 64
   stop-few z k ek = let w = seen-first (mayCodeAt s) i 16 m stops (omega arith) z in omega (arith, w .inside)
@@ -85,4 +84,5 @@ module _ (s : List ℕ) (i : ℕ) (d d₁ d₂ : List ℕ) (o : ℕ) (b n f : Li
         few = omega (arith, w .inside);
         part = part k (omega (arith, w .inside)) (λ j h. w .before j (omega arith));
         unlike = record { places = 16 - k; most = omega arith; seen = rw ev (seen-after (unlikeAt s) i 16 u unlike k) };
+        stored = stored;
       }

@@ -11,11 +11,13 @@ use lib.Dec.{eqb}
 use borrow.Author.Tests.{ne-eqb, eq-eqb}
 use Rattle.packed.specs.Packed.{Found, malformed, bytes, before, run, unpacked}
 use Rattle.packed.specs.Packed.Steps.{front-plain, front-cut, front-run, unpacked-nil}
-use Rattle.packed.specs.Unpacking.{answerOf}
-use Rattle.packed.specs.Inner.{over, Into}
+use Rattle.packed.specs.Unpacking.{answerOf, leftBy, Unpacks}
+use Rattle.packed.specs.Inner.{over}
 use Rattle.codes.specs.Inner.{pairAt}
 use Rattle.codes.proofs.Pair.{pair-there}
-use Rattle.stores.specs.Stored.{Stored}
+use Rattle.slices.specs.Choose.{choose}
+use Rattle.slices.specs.Put.{put}
+use Rattle.stores.proofs.Written.{stored-put, put-fewer}
 use Rattle.packed.proofs.Frame.{Frame, onward}
 use Rattle.packed.specs.declared.Unpacked.{Unpacked}
 use Rattle.packed.specs.declared.Unpacked.the-variants.{Good, WrongLength, Malformed}
@@ -77,12 +79,17 @@ module _ (s : List ℕ) (from i : ℕ) (r : Bool) (g : Resting s from i) (e : r 
 pub resting-end : (s : List ℕ) (from i : ℕ) → Resting s from i → length s ≤ i → WrongLength ≡ over (unpacked (drop from s))
 resting-end s from i g h = sym (g .same ∙ ap over (step-end s i h))
 
-not-good : (r : Unpacked) → r ≡ Malformed → r ≡ Good → ⊥
-not-good r p q = let z : _≡_ {A = ℕ} 0 1 = cc in omega arith
-
-pub over-not-good : (u : Found) → over u ≡ Good → ⊥
+over-not-good : (u : Found) → over u ≡ Good → ⊥
 over-not-good malformed q = let z : _≡_ {A = ℕ} 0 1 = cc in omega arith
 over-not-good (bytes xs) q = let z : _≡_ {A = ℕ} 0 1 = cc in omega arith
+
+left-refused : (u : Found) (n : ℕ) → (answerOf u n ≡ Good → ⊥) → replicate n 0 ≡ leftBy u n
+left-refused malformed n h = refl
+left-refused (bytes xs) n h = go (eqb (length xs) n) h
+  where
+    go : (t : Bool) → (choose t Good WrongLength ≡ Good → ⊥) → replicate n 0 ≡ choose t xs (replicate n 0)
+    go true h = absurd (h refl)
+    go false h = refl
 
 full : (xs ys : List ℕ) (w : Found) (n : ℕ) → n < length xs + length ys → over (before ys w) ≡ answerOf (before xs (before ys w)) n
 full xs ys malformed n h = refl
@@ -91,71 +98,77 @@ full xs ys (bytes zs) n h =
     simp (ne-eqb (length (xs ++ (ys ++ zs))) n (λ e. omega arith))
 
 module _ (u : Found) (s d₀ d : List ℕ) (i o : ℕ) (g : Frame unpacked u s d₀ d i o) where
-  -- the output is full, and what is at i stands for ys and more
-  over-into : (r : Unpacked) (ys : List ℕ) (w : Found) → r ≡ over (unpacked (drop i s)) → unpacked (drop i s) ≡ before ys w → length d < o + length ys
-      → Into u d₀ r d
-  over-into r ys w er eu h =
-      let l : length (take o d) ≡ o = length-take-le o d (g .room) in
-      record {
-        answer =
-            er ∙ ap over eu ∙ full (take o d) ys w (length d₀) (omega (arith, g .long))
-            ∙ ap (λ (u : Found). answerOf u (length d₀)) (sym (g .same ∙ ap (before (take o d)) eu));
-        found = λ q. absurd (over-not-good (unpacked (drop i s)) (sym er ∙ q));
-      }
+  module _ (why r : Unpacked) (d′ : List ℕ) (c : (r ≡ why) × (d′ ≡ replicate (length d) 0)) where
+    -- the answer is a refusal
+    refused-into : why ≡ answerOf u (length d₀) → (v : Found) → why ≡ over v → Unpacks u (length d₀) r d′
+    refused-into e v w =
+        record {
+          answer = c .0 ∙ e;
+          memory = c .1 ∙ ap (λ (n : ℕ). replicate n 0) (g .long) ∙ left-refused u (length d₀) (λ q. over-not-good v (sym w ∙ e ∙ q));
+        }
 
-  bad-into : unpacked (drop i s) ≡ malformed → Into u d₀ Malformed d
-  bad-into e =
-      record {
-        answer = ap (λ (u : Found). answerOf u (length d₀)) (sym (g .same ∙ ap (before (take o d)) e));
-        found = λ q. absurd (not-good Malformed refl q);
-      }
+    -- the output is full, and what is at i stands for ys and more
+    over-into : (ys : List ℕ) (w : Found) → why ≡ over (unpacked (drop i s)) → unpacked (drop i s) ≡ before ys w → length d < o + length ys → Unpacks u (length d₀) r d′
+    over-into ys w er eu h =
+        let l : length (take o d) ≡ o = length-take-le o d (g .room) in
+        refused-into
+        (er ∙ ap over eu ∙ full (take o d) ys w (length d₀) (omega (arith, g .long))
+        ∙ ap (λ (u : Found). answerOf u (length d₀)) (sym (g .same ∙ ap (before (take o d)) eu)))
+        (unpacked (drop i s)) er
+
+    bad-into : why ≡ Malformed → unpacked (drop i s) ≡ malformed → Unpacks u (length d₀) r d′
+    bad-into m e = refused-into (m ∙ ap (λ (u : Found). answerOf u (length d₀)) (sym (g .same ∙ ap (before (take o d)) e))) malformed m
 
   module _ (r : Bool) (e : r ≡ pairAt s i) where
-    pub going-plain : (d′ : List ℕ) → Stored d o (getD s i 0 ∷ []) d′ → i < length s → r ≡ false → o < length d → Frame unpacked u s d₀ d′ (i + 1) (o + 1)
+    pub going-plain : (d′ : List ℕ) → d′ ≡ put d o (getD s i 0 ∷ []) → i < length s → r ≡ false → o < length d → Frame unpacked u s d₀ d′ (i + 1) (o + 1)
     going-plain d′ p h f k =
-        onward unpacked u s d₀ d i o g d′ (getD s i 0 ∷ []) (i + 1) (o + 1) (record { step = step-plain s i r e h f; inside = omega arith }) p refl (omega arith)
+        onward unpacked u s d₀ d i o g d′ (getD s i 0 ∷ []) (i + 1) (o + 1) (record { step = step-plain s i r e h f; inside = omega arith })
+        (stored-put d d′ (getD s i 0 ∷ []) o (omega arith) p) refl (omega arith)
 
-    pub full-plain : (a : Unpacked) → i < length s → r ≡ false → length d ≤ o → a ≡ over (unpacked (drop i s)) → Into u d₀ a d
-    full-plain a h f k p = over-into a (getD s i 0 ∷ []) (unpacked (drop (i + 1) s)) p (step-plain s i r e h f) (omega arith)
+    pub full-plain : (why a : Unpacked) (d′ : List ℕ) → i < length s → r ≡ false → length d ≤ o → why ≡ over (unpacked (drop i s)) → (a ≡ why) × (d′ ≡ replicate (length d) 0)
+        → Unpacks u (length d₀) a d′
+    full-plain why a d′ h f k p c = over-into why a d′ c (getD s i 0 ∷ []) (unpacked (drop (i + 1) s)) p (step-plain s i r e h f) (omega arith)
 
-    pub cut-into : length s < i + 4 → r ≡ true → Into u d₀ Malformed d
-    cut-into h t = bad-into (step-cut s i r e h t)
+    pub cut-into : (a : Unpacked) (d′ : List ℕ) → length s < i + 4 → r ≡ true → (a ≡ Malformed) × (d′ ≡ replicate (length d) 0) → Unpacks u (length d₀) a d′
+    cut-into a d′ h t c = bad-into Malformed a d′ c refl (step-cut s i r e h t)
 
     module _ (n : ℕ) (h : i + 4 ≤ length s) (t : r ≡ true) (en : n ≡ getD s (i + 2) 0) where
       stands : (n ≡ 0 → ⊥) → unpacked (drop i s) ≡ before (replicate n (getD s (i + 3) 0)) (unpacked (drop (i + 4) s))
       stands z =
           step-run s i r e h t ∙ ap (λ (m : ℕ). run m (getD s (i + 3) 0) (unpacked (drop (i + 4) s))) (sym en) ∙ rw (ne-eqb n 0 z)
 
-      pub zero-into : n ≡ 0 → Into u d₀ Malformed d
-      zero-into z = bad-into (step-run s i r e h t ∙ rw (eq-eqb (getD s (i + 2) 0) 0 (sym en ∙ z)))
+      pub zero-into : (a : Unpacked) (d′ : List ℕ) → n ≡ 0 → (a ≡ Malformed) × (d′ ≡ replicate (length d) 0) → Unpacks u (length d₀) a d′
+      zero-into a d′ z c = bad-into Malformed a d′ c refl (step-run s i r e h t ∙ rw (eq-eqb (getD s (i + 2) 0) 0 (sym en ∙ z)))
 
-      pub full-run : (a : Unpacked) → (n ≡ 0 → ⊥) → length d < o + n → a ≡ over (unpacked (drop i s)) → Into u d₀ a d
-      full-run a z k p =
-          over-into a (replicate n (getD s (i + 3) 0)) (unpacked (drop (i + 4) s)) p (stands z) (omega (arith, length-replicate n (getD s (i + 3) 0)))
+      pub full-run : (why a : Unpacked) (d′ : List ℕ) → (n ≡ 0 → ⊥) → length d < o + n → why ≡ over (unpacked (drop i s)) → (a ≡ why) × (d′ ≡ replicate (length d) 0)
+          → Unpacks u (length d₀) a d′
+      full-run why a d′ z k p c =
+          over-into why a d′ c (replicate n (getD s (i + 3) 0)) (unpacked (drop (i + 4) s)) p (stands z) (omega (arith, length-replicate n (getD s (i + 3) 0)))
 
-      pub going-run : (d′ : List ℕ) → Stored d o (replicate n (getD s (i + 3) 0)) d′ → (n ≡ 0 → ⊥) → o + n ≤ length d → Frame unpacked u s d₀ d′ (i + 4) (o + n)
-      going-run d′ p z k =
-          onward unpacked u s d₀ d i o g d′ (replicate n (getD s (i + 3) 0)) (i + 4) (o + n) (record { step = stands z; inside = h }) p
-          (ap (λ (m : ℕ). o + m) (length-replicate n (getD s (i + 3) 0))) k
+      -- m of the byte were stored, of which n count
+      pub going-stored : (d′ : List ℕ) (m : ℕ) → d′ ≡ put d o (replicate m (getD s (i + 3) 0)) → (n ≡ 0 → ⊥) → n ≤ m → o + m ≤ length d
+          → Frame unpacked u s d₀ d′ (i + 4) (o + n)
+      going-stored d′ m p z few k =
+          let v = getD s (i + 3) 0 in
+          onward unpacked u s d₀ d i o g d′ (replicate n v) (i + 4) (o + n) (record { step = stands z; inside = h })
+          (put-fewer d d′ o n m v few k (stored-put d d′ (replicate m v) o (omega (arith, length-replicate m v)) p)) (ap (λ (m : ℕ). o + m) (length-replicate n v))
+          (omega arith)
+
+      pub going-run : (d′ : List ℕ) → d′ ≡ put d o (replicate n (getD s (i + 3) 0)) → (n ≡ 0 → ⊥) → o + n ≤ length d → Frame unpacked u s d₀ d′ (i + 4) (o + n)
+      going-run d′ p z k = going-stored d′ n p z (omega arith) k
 
   -- all is read
   whole : length s ≤ i → u ≡ bytes (take o d)
   whole h = g .same ∙ ap (before (take o d)) (step-end s i h) ∙ ap bytes (append-nil (take o d))
 
-  pub good-into : length s ≤ i → o ≡ length d → Into u d₀ Good d
+  pub good-into : length s ≤ i → o ≡ length d → Unpacks u (length d₀) Good d
   good-into h e =
       let l : length (take o d) ≡ o = length-take-le o d (g .room) in
       let q : eqb (length (take o d)) (length d₀) ≡ true = eq-eqb (length (take o d)) (length d₀) (omega (arith, g .long)) in
-      record {
-        answer = rw (whole h, q);
-        found = λ _. rw (whole h, q) (take-all o d (omega arith));
-      }
+      record { answer = rw (whole h, q); memory = rw (whole h, q) (sym (take-all o d (omega arith))) }
 
-  pub wrong-into : length s ≤ i → (o ≡ length d → ⊥) → Into u d₀ WrongLength d
-  wrong-into h e =
+  pub wrong-into : (a : Unpacked) (d′ : List ℕ) → length s ≤ i → (o ≡ length d → ⊥) → (a ≡ WrongLength) × (d′ ≡ replicate (length d) 0) → Unpacks u (length d₀) a d′
+  wrong-into a d′ h e c =
       let l : length (take o d) ≡ o = length-take-le o d (g .room) in
       let q : eqb (length (take o d)) (length d₀) ≡ false = ne-eqb (length (take o d)) (length d₀) (λ z. e (omega (arith, g .long))) in
-      record {
-        answer = rw (whole h, q);
-        found = λ p. absurd (over-not-good (bytes []) p);
-      }
+      refused-into WrongLength a d′ c (rw (whole h, q)) (bytes []) refl

@@ -3,36 +3,40 @@ use codes::pair_at;
 use packed::Unpacked;
 ghost use Prim.Native.Nat.{_≤_};
 ghost use mathlib.Core.Path.{_≡_};
-ghost use lib.ListN.{length, take, drop};
+ghost use lib.ListN.{length, take, drop, replicate};
 ghost use Rattle.packed.specs.Packed.{before, unpacked};
-ghost use Rattle.packed.specs.Inner.{over, Into};
+ghost use Rattle.packed.specs.Unpacking.{Unpacks};
+ghost use Rattle.packed.specs.Inner.{over};
 
-// The rest of src unpacked, from `from` on, into dst from `at` on. Where the answer is Good, dst holds what stands before `at` and what the rest stands for.
+// The rest of src unpacked, from `from` on, into dst from `at` on, after what stands before `at`; dst is all zero unless the answer
+// is Good.
 pub fn unpack_rest(src: &[u8], from: usize, dst: &mut [u8], at: usize) -> Unpacked
     requires { ⌜ (from ≤ length (now src)) × (at ≤ length (now dst)) ⌝ }
-    ensures { λ r. ⌜ Into (before (take at (now (dst .entry))) (unpacked (drop from (now (src .entry))))) (now (dst .entry)) r (now (dst .exit)) ⌝ }
+    ensures { λ r. ⌜ Unpacks (before (take at (now (dst .entry))) (unpacked (drop from (now (src .entry))))) (length (now (dst .entry))) r (now (dst .exit)) ⌝ }
 {
     let mut i = from;
     let mut o = at;
     while i < src.len() {
         if pair_at(src, i) {
             if src.len() < i + 4 {
-                return Unpacked::Malformed;
+                return refused_part(dst, Unpacked::Malformed);
             }
             let count = slices::wide(src[i + 2]);
             if count == 0 {
-                return Unpacked::Malformed;
+                return refused_part(dst, Unpacked::Malformed);
             }
             let e = o + count;
             if dst.len() < e {
-                return rest(src, i);
+                let why = rest(src, i);
+                return refused_part(dst, why);
             }
             stores::fill_run(dst, o, count, src[i + 3]);
             o = e;
             i += 4;
         } else {
             if dst.len() <= o {
-                return rest(src, i);
+                let why = rest(src, i);
+                return refused_part(dst, why);
             }
             stores::put_one(dst, o, src[i]);
             o += 1;
@@ -42,7 +46,15 @@ pub fn unpack_rest(src: &[u8], from: usize, dst: &mut [u8], at: usize) -> Unpack
     if o == dst.len() {
         return Unpacked::Good;
     }
-    Unpacked::WrongLength
+    refused_part(dst, Unpacked::WrongLength)
+}
+
+// What is refused leaves dst all zero.
+pub fn refused_part(dst: &mut [u8], why: Unpacked) -> Unpacked
+    ensures { λ r. ⌜ (r ≡ why) × (now (dst .exit) ≡ replicate (length (now (dst .entry))) 0) ⌝ }
+{
+    slices::fill(dst, 0);
+    why
 }
 
 // The answer where dst is full and the bytes from `from` on are left: a bad code among them still decides.

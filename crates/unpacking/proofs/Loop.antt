@@ -4,20 +4,22 @@ use native.Mathlib.Omega.{arith}
 use mathlib.Core.Path.{_≡_, refl, sym, ap, subst, _∙_}
 use mathlib.Core.Bool.{Bool, true, false}
 use mathlib.Core.List.{List}
-use lib.ListN.{length, getD, drop, replicate}
-use lib.Dec.{eqb}
+use lib.ListN.{length, getD, take, drop, replicate}
+use lib.Dec.{eqb, ltb}
 use lib.Count.{trailingZeros}
 use borrow.Author.Tests.{eqb-true, eqb-false}
 use Rattle.flags.specs.Places.{Ahead}
 use Rattle.flags.proofs.Places.{seen-first, first-few, ahead-none, ahead-after}
-use Rattle.packed.specs.Packed.{unpacked}
-use Rattle.packed.specs.Inner.{over, Into, Copied}
-use Rattle.codes.specs.Inner.{pairAt, Looked}
-use Rattle.stores.specs.Stored.{Stored}
+use Rattle.packed.specs.Packed.{before, unpacked}
+use Rattle.slices.specs.Choose.{choose}
+use Rattle.slices.specs.Put.{put}
+use Rattle.packed.specs.Unpacking.{answerOf, leftBy, Unpacks}
+use Rattle.packed.specs.Inner.{over, Verbatim}
+use Rattle.codes.specs.Inner.{pairAt, reachOf, Looked}
 use Rattle.packed.specs.declared.Unpacked.{Unpacked}
 use Rattle.packed.specs.declared.Unpacked.the-variants.{Malformed}
 use Rattle.packed.proofs.Frame.{Frame, frame-none, copied}
-use Rattle.unpack_tail.proofs.UnpackSteps.{zero-into, full-run, going-run}
+use Rattle.unpack_tail.proofs.UnpackSteps.{zero-into, full-run, going-stored}
 
 -- the frame, and what was seen ahead
 pub record Unpacking (s d₀ d : List ℕ) (i o m : ℕ) : Type 0 where
@@ -37,10 +39,22 @@ spent s i j m a h = go (eqb m 0) refl
         let f = seen-first (pairAt s) i (a .places) m (a .seen) (a .most) (eqb-false m 0 e) in
         let z : ⊥ = omega (arith, f .inside, a .most) in absurd z
 
+reach-most : (m : ℕ) → reachOf m ≤ 64
+reach-most m = go (ltb (trailingZeros 64 m) 16)
+  where
+    go : (t : Bool) → choose t 16 64 ≤ 64
+    go true = omega arith
+    go false = omega arith
+
 -- up to the next ED ED, k bytes on
-module _ (s d₀ d : List ℕ) (i o m₀ : ℕ) (g : Unpacking s d₀ d i o m₀) (d′ : List ℕ) (m k : ℕ) (l : Looked s i d o m d′) (e : k ≡ trailingZeros 64 m) (hd : o + 64 ≤ length d) where
+module _ (s d₀ d : List ℕ) (i o m₀ : ℕ) (g : Unpacking s d₀ d i o m₀) (d′ : List ℕ) (m k : ℕ) (l : Looked s i d o m₀ m d′) (e : k ≡ trailingZeros 64 m) (hs : i + 68 ≤ length s) (hd : o + 96 ≤ length d) where
   reached : Frame unpacked (unpacked s) s d₀ d′ (i + k) (o + k)
-  reached = copied unpacked (unpacked s) s d₀ d i o (g .frame) d′ k (subst (λ (n : ℕ). Copied unpacked s i d o n d′) (sym e) (l .part)) (omega (arith, first-few m k e))
+  reached =
+      copied unpacked (unpacked s) s d₀ d i o (g .frame) d′ k (reachOf m₀) (subst (Verbatim unpacked s i) (sym e) (l .part)) (omega (arith, l .reach))
+      (omega (arith, reach-most m₀)) (omega (arith, reach-most m₀)) (l .stored)
+
+  long : length d′ ≡ length d
+  long = let f = reached in f .long ∙ sym (g .frame .long)
 
   code : (k ≡ 64 → ⊥) → true ≡ pairAt s (i + k)
   code h = l .code (omega (arith, first-few m k e)) ∙ ap (λ (n : ℕ). pairAt s (i + n)) (sym e)
@@ -52,20 +66,37 @@ module _ (s d₀ d : List ℕ) (i o m₀ : ℕ) (g : Unpacking s d₀ d i o m₀
         ahead = spent s i (i + 64) m (l .ahead) (omega arith);
       }
 
-  module _ (n : ℕ) (h : k ≡ 64 → ⊥) (hs : i + 68 ≤ length s) (en : n ≡ getD s (i + k + 2) 0) where
+  module _ (n : ℕ) (h : k ≡ 64 → ⊥) (en : n ≡ getD s (i + k + 2) 0) where
     fits : i + k + 4 ≤ length s
     fits = omega (arith, first-few m k e)
 
-    pub unpacking-zero : n ≡ 0 → Into (unpacked s) d₀ Malformed d′
-    unpacking-zero z = zero-into (unpacked s) s d₀ d′ (i + k) (o + k) reached true (code h) n fits refl en z
+    pub unpacking-zero : (a : Unpacked) (d″ : List ℕ) → n ≡ 0 → (a ≡ Malformed) × (d″ ≡ replicate (length d′) 0) → Unpacks (unpacked s) (length d₀) a d″
+    unpacking-zero a d″ z c = zero-into (unpacked s) s d₀ d′ (i + k) (o + k) reached true (code h) n fits refl en a d″ z c
 
-    pub unpacking-full : (a : Unpacked) → a ≡ over (unpacked (drop (i + k) s)) → (n ≡ 0 → ⊥) → length d′ < o + k + n → Into (unpacked s) d₀ a d′
-    unpacking-full a r z j = full-run (unpacked s) s d₀ d′ (i + k) (o + k) reached true (code h) n fits refl en a z j r
+    pub unpacking-full : (why a : Unpacked) (d″ : List ℕ) → why ≡ over (unpacked (drop (i + k) s)) → (n ≡ 0 → ⊥) → length d′ < o + k + n
+        → (a ≡ why) × (d″ ≡ replicate (length d′) 0) → Unpacks (unpacked s) (length d₀) a d″
+    unpacking-full why a d″ r z j c = full-run (unpacked s) s d₀ d′ (i + k) (o + k) reached true (code h) n fits refl en why a d″ z j r c
 
-    pub unpacking-run : (d″ : List ℕ) → Stored d′ (o + k) (replicate n (getD s (i + k + 3) 0)) d″ → (n ≡ 0 → ⊥) → o + k + n ≤ length d′
-        → (m₁ m₂ : ℕ) → m₁ ≡ m / 2 ^ k → m₂ ≡ m₁ / 2 ^ 4 → Unpacking s d₀ d″ (i + k + 4) (o + k + n) m₂
-    unpacking-run d″ p z j m₁ m₂ e₁ e₂ =
-        record {
-          frame = going-run (unpacked s) s d₀ d′ (i + k) (o + k) reached true (code h) n fits refl en d″ p z j;
-          ahead = rw (e₂, e₁) (ahead-after (pairAt s) (i + k) (m / 2 ^ k) (ahead-after (pairAt s) i m (l .ahead) k) 4);
-        }
+    module _ (d″ : List ℕ) (z : n ≡ 0 → ⊥) (m₁ m₂ : ℕ) (e₁ : m₁ ≡ m / 2 ^ k) (e₂ : m₂ ≡ m₁ / 2 ^ 4) where
+      stored-run : (w : ℕ) → d″ ≡ put d′ (o + k) (replicate w (getD s (i + k + 3) 0)) → n ≤ w → o + k + w ≤ length d′ → Unpacking s d₀ d″ (i + k + 4) (o + k + n) m₂
+      stored-run w p few j =
+          record {
+            frame = going-stored (unpacked s) s d₀ d′ (i + k) (o + k) reached true (code h) n fits refl en d″ w p z few j;
+            ahead = rw (e₂, e₁) (ahead-after (pairAt s) (i + k) (m / 2 ^ k) (ahead-after (pairAt s) i m (l .ahead) k) 4);
+          }
+
+      pub unpacking-run : d″ ≡ put d′ (o + k) (replicate n (getD s (i + k + 3) 0)) → o + k + n ≤ length d′ → Unpacking s d₀ d″ (i + k + 4) (o + k + n) m₂
+      unpacking-run p j = stored-run n p (omega arith) j
+
+      pub unpacking-short : d″ ≡ put d′ (o + k) (replicate 32 (getD s (i + k + 3) 0)) → n ≤ 32 → Unpacking s d₀ d″ (i + k + 4) (o + k + n) m₂
+      unpacking-short p few = stored-run 32 p few (omega (arith, long, first-few m k e))
+
+-- the rest is another's
+pub rest-into : (s d₀ d : List ℕ) (i o m : ℕ) → Unpacking s d₀ d i o m → (a : Unpacked) (d′ : List ℕ) → Unpacks (before (take o d) (unpacked (drop i s))) (length d) a d′
+    → Unpacks (unpacked s) (length d₀) a d′
+rest-into s d₀ d i o m g a d′ h =
+    let f = g .frame in
+    record {
+      answer = h .answer ∙ (λ j. answerOf (sym (f .same) j) (f .long j));
+      memory = h .memory ∙ (λ j. leftBy (sym (f .same) j) (f .long j));
+    }

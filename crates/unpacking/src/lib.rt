@@ -1,30 +1,17 @@
 // Unpacking. Where ED ED stands is looked up for 64 places at once, and the flags serve for every code among them.
 use codes::look;
 use packed::Unpacked;
+use unpack_tail::refused_part;
 use unpack_tail::rest;
 use unpack_tail::unpack_rest;
 ghost use lib.ListN.{length};
 ghost use Rattle.packed.specs.Packed.{unpacked};
 ghost use Rattle.packed.specs.Unpacking.{Unpacks};
-ghost use Rattle.packed.specs.Inner.{Into};
 
-// src unpacked into dst, which is all zero unless the answer is Good.
+// src unpacked into dst, which is all zero unless the answer is Good. While there is much of both, a look reads 65 bytes and the
+// last code in it three more, and it stores 64 and a short run 32 after the first 63.
 pub fn unpack(src: &[u8], dst: &mut [u8]) -> Unpacked
     ensures { λ r. ⌜ Unpacks (unpacked (now (src .entry))) (length (now (dst .entry))) r (now (dst .exit)) ⌝ }
-{
-    let r = unpack_into(src, dst);
-    match r {
-        Unpacked::Good => return Unpacked::Good,
-        Unpacked::WrongLength => slices::clear_from(dst, 0),
-        Unpacked::Malformed => slices::clear_from(dst, 0),
-    }
-    r
-}
-
-// The loop, while there is much of both: a look reads 65 bytes and the last code in it three more, and it stores 64 and a
-// short run 32 after the first 63. Where the answer is Good, dst holds what src stands for.
-fn unpack_into(src: &[u8], dst: &mut [u8]) -> Unpacked
-    ensures { λ r. ⌜ Into (unpacked (now (src .entry))) (now (dst .entry)) r (now (dst .exit)) ⌝ }
 {
     let mut i: usize = 0;
     let mut o: usize = 0;
@@ -44,17 +31,18 @@ fn unpack_into(src: &[u8], dst: &mut [u8]) -> Unpacked
             let n = slices::wide(src[p + 2]);
             let y = src[p + 3];
             if n == 0 {
-                return Unpacked::Malformed;
+                return refused_part(dst, Unpacked::Malformed);
             }
             if n <= 32 {
-                stores::fill_short(dst, q, n, y);
+                stores::fill_32(dst, q, y);
                 i = p + 4;
                 o = q + n;
                 codes = flags::after(flags::after(codes, k), 4);
             } else {
                 let e = q + n;
                 if dst.len() < e {
-                    return rest(src, p);
+                    let why = rest(src, p);
+                    return refused_part(dst, why);
                 }
                 stores::fill_run(dst, q, n, y);
                 i = p + 4;

@@ -27,6 +27,9 @@ run-at-requires c κs = search needs
 add-if3 : tie.Need-add-if3 Inv-loop μ-loop
 add-if3 c = search needs
 
+too-short-requires : tie.Need-too-short-requires Inv-loop μ-loop
+too-short-requires c κs = search needs
+
 same-length : tie.Need-same-length Inv-loop μ-loop
 same-length c = search needs
 
@@ -53,6 +56,9 @@ add-if4 c = search needs
 
 add-if5 : tie.Need-add-if5 Inv-loop μ-loop
 add-if5 c = search needs
+
+too-short-requires-2 : tie.Need-too-short-requires-2 Inv-loop μ-loop
+too-short-requires-2 c κs = search needs
 
 same-length-2 : tie.Need-same-length-2 Inv-loop μ-loop
 same-length-2 c = search needs
@@ -81,6 +87,9 @@ loop-less-2 c = search needs
 loop-again-2 : tie.Need-loop-again-2 Inv-loop μ-loop
 loop-again-2 c = search again-single
 
+too-short-requires-3 : tie.Need-too-short-requires-3 Inv-loop μ-loop
+too-short-requires-3 c κs = search needs
+
 same-length-3 : tie.Need-same-length-3 Inv-loop μ-loop
 same-length-3 c = search needs
 
@@ -104,6 +113,9 @@ loop-again-3 c = search again-last
 
 add-if8 : tie.Need-add-if8 Inv-loop μ-loop
 add-if8 c = search needs
+
+too-short-requires-4 : tie.Need-too-short-requires-4 Inv-loop μ-loop
+too-short-requires-4 c κs = search needs
 
 same-length-4 : tie.Need-same-length-4 Inv-loop μ-loop
 same-length-4 c = search needs
@@ -129,6 +141,9 @@ loop-again-4 c = search again-run
 add-e : tie.Need-add-e Inv-loop μ-loop
 add-e c = search needs
 
+too-short-requires-5 : tie.Need-too-short-requires-5 Inv-loop μ-loop
+too-short-requires-5 c κs = search needs
+
 same-length-5 : tie.Need-same-length-5 Inv-loop μ-loop
 same-length-5 c = search needs
 
@@ -147,6 +162,9 @@ loop-less-5 c = search needs
 loop-again-5 : tie.Need-loop-again-5 Inv-loop μ-loop
 loop-again-5 c = search again-short
 
+clear-from-requires : tie.Need-clear-from-requires Inv-loop μ-loop
+clear-from-requires c κs = search needs
+
 same-length-6 : tie.Need-same-length-6 Inv-loop μ-loop
 same-length-6 c = search needs
 
@@ -163,6 +181,7 @@ pack-rest-spec =
     shared-slice-read-v
     run-at-requires
     add-if3
+    too-short-requires
     same-length
     returns
     put-run-requires
@@ -172,6 +191,7 @@ pack-rest-spec =
     loop-again
     add-if4
     add-if5
+    too-short-requires-2
     same-length-2
     returns-2
     add-put-two
@@ -181,6 +201,7 @@ pack-rest-spec =
     add-i-2
     loop-less-2
     loop-again-2
+    too-short-requires-3
     same-length-3
     returns-3
     put-one-requires
@@ -189,6 +210,7 @@ pack-rest-spec =
     loop-less-3
     loop-again-3
     add-if8
+    too-short-requires-4
     same-length-4
     returns-4
     put-run-requires-2
@@ -197,11 +219,13 @@ pack-rest-spec =
     loop-less-4
     loop-again-4
     add-e
+    too-short-requires-5
     same-length-5
     returns-5
     fill-run-requires
     add-i-5
     loop-less-5
     loop-again-5
+    clear-from-requires
     same-length-6
     returns-6)

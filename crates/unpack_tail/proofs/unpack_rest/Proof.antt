@@ -22,6 +22,9 @@ pair-at-requires c κs = search needs
 add-if2 : tie.Need-add-if2 Inv-loop μ-loop
 add-if2 c = search needs
 
+refused-part-requires : tie.Need-refused-part-requires Inv-loop μ-loop
+refused-part-requires c κs = search needs
+
 same-length : tie.Need-same-length Inv-loop μ-loop
 same-length c = search needs
 
@@ -37,6 +40,9 @@ shared-slice-read-wide c = search needs
 wide-requires : tie.Need-wide-requires Inv-loop μ-loop
 wide-requires c κs = search needs
 
+refused-part-requires-2 : tie.Need-refused-part-requires-2 Inv-loop μ-loop
+refused-part-requires-2 c κs = search needs
+
 same-length-2 : tie.Need-same-length-2 Inv-loop μ-loop
 same-length-2 c = search needs
 
@@ -48,6 +54,9 @@ add-e c = search needs
 
 rest-requires : tie.Need-rest-requires Inv-loop μ-loop
 rest-requires c κs = search needs
+
+refused-part-requires-3 : tie.Need-refused-part-requires-3 Inv-loop μ-loop
+refused-part-requires-3 c κs = search needs
 
 same-length-3 : tie.Need-same-length-3 Inv-loop μ-loop
 same-length-3 c = search needs
@@ -75,6 +84,9 @@ loop-again c = search going-run
 
 rest-requires-2 : tie.Need-rest-requires-2 Inv-loop μ-loop
 rest-requires-2 c κs = search needs
+
+refused-part-requires-4 : tie.Need-refused-part-requires-4 Inv-loop μ-loop
+refused-part-requires-4 c κs = search needs
 
 same-length-4 : tie.Need-same-length-4 Inv-loop μ-loop
 same-length-4 c = search needs
@@ -107,6 +119,9 @@ same-length-5 c = search needs
 returns-5 : tie.Need-returns-5 Inv-loop μ-loop
 returns-5 c = search good-into
 
+refused-part-requires-5 : tie.Need-refused-part-requires-5 Inv-loop μ-loop
+refused-part-requires-5 c κs = search needs
+
 same-length-6 : tie.Need-same-length-6 Inv-loop μ-loop
 same-length-6 c = search needs
 
@@ -122,15 +137,18 @@ unpack-rest-spec =
     loop-holds
     pair-at-requires
     add-if2
+    refused-part-requires
     same-length
     returns
     add-wide
     shared-slice-read-wide
     wide-requires
+    refused-part-requires-2
     same-length-2
     returns-2
     add-e
     rest-requires
+    refused-part-requires-3
     same-length-3
     returns-3
     add-fill-run
@@ -140,6 +158,7 @@ unpack-rest-spec =
     loop-less
     loop-again
     rest-requires-2
+    refused-part-requires-4
     same-length-4
     returns-4
     shared-slice-read-put-one
@@ -150,5 +169,6 @@ unpack-rest-spec =
     loop-again-2
     same-length-5
     returns-5
+    refused-part-requires-5
     same-length-6
     returns-6)

@@ -1,10 +1,10 @@
-use Rattle.stores.proofs.Written.{put-up-to-4}
+use Rattle.stores.proofs.Written.{put-4}
 use Prim.Native.Nat.{_-_}
 use native.Mathlib.Omega.{arith}
 use lib.ListN.{length-set}
 use borrow.Author.Needs.{needs}
-use Rattle.stores.proofs.put_short.Statement.{statement}
-use Rattle.stores.proofs.put_short.Tie as tie
+use Rattle.stores.proofs.put_four.Statement.{statement}
+use Rattle.stores.proofs.put_four.Tie as tie
 
 slice-write-dst : tie.Need-slice-write-dst
 slice-write-dst c = search needs
@@ -31,10 +31,10 @@ same-length : tie.Need-same-length
 same-length c = search needs
 
 returns : tie.Need-returns
-returns c = search put-up-to-4
+returns c = search put-4
 
-pub put-short-spec : {M : Type 1} → statement M
-put-short-spec =
+pub put-four-spec : {M : Type 1} → statement M
+put-four-spec =
     tie.close
     (tie.spec
     slice-write-dst

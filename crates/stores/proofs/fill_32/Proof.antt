@@ -1,7 +1,7 @@
-use Rattle.stores.proofs.Written.{put-up-to-32}
+use Rattle.stores.proofs.Written.{put-part}
 use borrow.Author.Needs.{needs}
-use Rattle.stores.proofs.fill_short.Statement.{statement}
-use Rattle.stores.proofs.fill_short.Tie as tie
+use Rattle.stores.proofs.fill_32.Statement.{statement}
+use Rattle.stores.proofs.fill_32.Tie as tie
 
 add-f : tie.Need-add-f
 add-f c = search needs
@@ -22,9 +22,9 @@ same-length : tie.Need-same-length
 same-length c = search needs
 
 returns : tie.Need-returns
-returns c = search put-up-to-32
+returns c = search put-part
 
-pub fill-short-spec : {M : Type 1} → statement M
-fill-short-spec =
+pub fill-32-spec : {M : Type 1} → statement M
+fill-32-spec =
     tie.close
     (tie.spec add-f sub-fill part-fill-start part-fill-end fill-requires same-length returns)
