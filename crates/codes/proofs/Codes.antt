@@ -5,10 +5,10 @@ use mathlib.Core.Path.{_≡_, refl, sym, ap, subst, _∙_}
 use mathlib.Core.Bool.{Bool, true, false}
 use mathlib.Core.List.{List, _∷_}
 use lib.ListN.{length, getD, take, drop}
-use lib.Dec.{eqb}
+use lib.Dec.{eqb, ltb}
 use lib.Bits.{bitOr}
 use lib.Count.{trailingZeros, trailing-of-zero}
-use borrow.Author.Tests.{eqb-true, eqb-false, lt-ltb, le-ltb}
+use borrow.Author.Tests.{eqb-true, eqb-false, lt-ltb, le-ltb, ltb-true, ltb-false}
 use Rattle.slices.specs.Put.{put}
 use Rattle.slices.proofs.Puts.{length-put}
 use Rattle.flags.specs.Weight.{weight}
@@ -59,51 +59,70 @@ module _ (s : List ℕ) (i : ℕ) (d₀ : List ℕ) (o : ℕ) (d : List ℕ) (m 
       }
 
   pub looking-all : 4 ≤ q → (before k : ℕ) → k ≡ trailingZeros 64 before → 16 ≤ k → Looked s i d₀ o before m d
-  looking-all h before k ek far = go (eqb m 0) refl
+  looking-all h before k ek far =
+      let n : 16 * q ≡ 64 = omega (arith, g .few) in
+      let all : reachOf before ≡ 64 = rw (le-ltb (trailingZeros 64 before) 16 (omega arith)) in
+      record {
+        kept = λ l. (let x : ⊥ = omega arith in absurd x);
+        anew = λ _. subst (λ (n : ℕ). Seen (pairAt s) i n m) n (g .seen);
+        stored = g .stored ∙ ap (λ (n : ℕ). put d₀ o (take n (drop i s))) (n ∙ sym all);
+      }
+
+pub looked-near : (s : List ℕ) (i : ℕ) (d : List ℕ) (o : ℕ) (b d′ : List ℕ) (m k : ℕ) → k ≡ trailingZeros 64 m → k < 16 → b ≡ take 16 (drop i s) → d′ ≡ put d o b → Looked s i d o m m d′
+looked-near s i d o b d′ m k e h eb ed =
+    let near : reachOf m ≡ 16 = rw (lt-ltb (trailingZeros 64 m) 16 (omega arith)) in
+    record {
+      kept = λ _. refl;
+      anew = λ l. (let x : ⊥ = omega arith in absurd x);
+      stored = ed ∙ ap (put d o) (eb ∙ ap (λ (n : ℕ). take n (drop i s)) (sym near));
+    }
+
+-- m flags ED ED from i on: the bytes before the first one stand for themselves, or 64 where it flags none
+pub record NextCode (s : List ℕ) (i seen m : ℕ) : Type 0 where
+  pub ahead : Ahead (pairAt s) i m
+  pub part : Verbatim unpacked s i (trailingZeros 64 m)
+  pub code : trailingZeros 64 m < 64 → true ≡ pairAt s (i + trailingZeros 64 m)
+  pub reach : trailingZeros 64 m ≤ reachOf seen
+
+module _ (s : List ℕ) (i : ℕ) (d₀ : List ℕ) (o seen m : ℕ) (d : List ℕ) (hs : i + 65 ≤ length s) (a : Ahead (pairAt s) i seen) (l : Looked s i d₀ o seen m d) where
+  near-code : trailingZeros 64 seen < 16 → NextCode s i seen m
+  near-code h =
+      let e = l .kept h in
+      let near : reachOf seen ≡ 16 = rw (lt-ltb (trailingZeros 64 seen) 16 h) in
+      let f = seen-first (pairAt s) i (a .places) seen (a .seen) (a .most) (some-set seen (omega arith)) in
+      rw e (record { ahead = a; part = plain-bytes s i _ (omega arith) (f .before); code = λ _. sym (f .here); reach = omega (arith, near) })
+
+  far-code : 16 ≤ trailingZeros 64 seen → NextCode s i seen m
+  far-code h = go (eqb m 0) refl
     where
-      n : 16 * q ≡ 64
-      n = omega (arith, g .few)
+      new : Seen (pairAt s) i 64 m
+      new = l .anew h
 
-      seen : Seen (pairAt s) i 64 m
-      seen = subst (λ (n : ℕ). Seen (pairAt s) i n m) n (g .seen)
+      all : reachOf seen ≡ 64
+      all = rw (le-ltb (trailingZeros 64 seen) 16 h)
 
-      all : reachOf before ≡ 64
-      all = rw (le-ltb (trailingZeros 64 before) 16 (omega arith))
-
-      stored : d ≡ put d₀ o (take (reachOf before) (drop i s))
-      stored = g .stored ∙ ap (λ (n : ℕ). put d₀ o (take n (drop i s))) (n ∙ sym all)
-
-      go : (t : Bool) → eqb m 0 ≡ t → Looked s i d₀ o before m d
+      go : (t : Bool) → eqb m 0 ≡ t → NextCode s i seen m
       go true e =
           let z = eqb-true m 0 e in
           let k : trailingZeros 64 m ≡ 64 = ap (trailingZeros 64) z ∙ trailing-of-zero 64 in
           record {
-            ahead = record { places = 64; most = omega arith; seen = seen };
-            part = plain-bytes s i _ (omega arith) (λ j l. seen-clear (pairAt s) i 64 m seen z j (omega arith));
+            ahead = record { places = 64; most = omega arith; seen = new };
+            part = plain-bytes s i _ (omega arith) (λ j l. seen-clear (pairAt s) i 64 m new z j (omega arith));
             code = λ l. (let x : ⊥ = omega arith in absurd x);
             reach = omega (arith, all);
-            stored = stored;
           }
       go false e =
-          let f = seen-first (pairAt s) i 64 m seen (omega arith) (eqb-false m 0 e) in
+          let f = seen-first (pairAt s) i 64 m new (omega arith) (eqb-false m 0 e) in
           record {
-            ahead = record { places = 64; most = omega arith; seen = seen };
+            ahead = record { places = 64; most = omega arith; seen = new };
             part = plain-bytes s i _ (omega (arith, f .inside)) (f .before);
             code = λ _. sym (f .here);
             reach = omega (arith, f .inside, all);
-            stored = stored;
           }
 
--- the next ED ED is near
-pub looked-near : (s : List ℕ) (i : ℕ) (d : List ℕ) (o : ℕ) (b d′ : List ℕ) (m k : ℕ) → Ahead (pairAt s) i m → k ≡ trailingZeros 64 m → k < 16 → i + 65 ≤ length s
-    → b ≡ take 16 (drop i s) → d′ ≡ put d o b → Looked s i d o m m d′
-looked-near s i d o b d′ m k a e h hs eb ed =
-    let f = seen-first (pairAt s) i (a .places) m (a .seen) (a .most) (some-set m (omega arith)) in
-    let near : reachOf m ≡ 16 = rw (lt-ltb (trailingZeros 64 m) 16 (omega arith)) in
-    record {
-      ahead = a;
-      part = plain-bytes s i _ (omega arith) (f .before);
-      code = λ _. sym (f .here);
-      reach = omega (arith, near);
-      stored = ed ∙ ap (put d o) (eb ∙ ap (λ (n : ℕ). take n (drop i s)) (sym near));
-    }
+  pub next-code : NextCode s i seen m
+  next-code = go (ltb (trailingZeros 64 seen) 16) refl
+    where
+      go : (t : Bool) → ltb (trailingZeros 64 seen) 16 ≡ t → NextCode s i seen m
+      go true e = near-code (ltb-true (trailingZeros 64 seen) 16 e)
+      go false e = far-code (ltb-false (trailingZeros 64 seen) 16 e)

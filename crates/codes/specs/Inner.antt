@@ -1,16 +1,15 @@
 -- Contracts of functions that only proved code calls, what one step of a loop leaves: a reviewer may skip this file.
 use Prim.Native.Nat.{ℕ, _+_, _<_, _≤_}
 use mathlib.Core.Path.{_≡_}
-use mathlib.Core.Bool.{Bool, true}
+use mathlib.Core.Bool.{Bool}
 use mathlib.Core.List.{List}
 use lib.Count.{trailingZeros}
 use lib.ListN.{take, drop, getD}
 use lib.Dec.{ltb}
-use Rattle.flags.specs.Places.{Seen, Ahead}
+use Rattle.flags.specs.Places.{Seen}
 use Rattle.slices.specs.Choose.{choose}
 use Rattle.slices.specs.Put.{put}
-use Rattle.packed.specs.Packed.{pair, unpacked}
-use Rattle.packed.specs.Inner.{Verbatim}
+use Rattle.packed.specs.Packed.{pair}
 
 -- whether ED ED stands at p
 abbrev pub pairAt : List ℕ → ℕ → Bool
@@ -25,10 +24,8 @@ pub record Copied16 (s : List ℕ) (i : ℕ) (d₀ : List ℕ) (o m : ℕ) (d : 
 abbrev pub reachOf : ℕ → ℕ
 reachOf seen = choose (ltb (trailingZeros 64 seen) 16) 16 64
 
--- m flags ED ED from i on: the bytes before the first one stand for themselves, or 64 where it flags none
+-- where the next ED ED is near, the flags are kept; else they are new ones, for 64 places
 pub record Looked (s : List ℕ) (i : ℕ) (d₀ : List ℕ) (o seen m : ℕ) (d : List ℕ) : Type 0 where
-  pub ahead : Ahead (pairAt s) i m
-  pub part : Verbatim unpacked s i (trailingZeros 64 m)
-  pub code : trailingZeros 64 m < 64 → true ≡ pairAt s (i + trailingZeros 64 m)
-  pub reach : trailingZeros 64 m ≤ reachOf seen
+  pub kept : trailingZeros 64 seen < 16 → m ≡ seen
+  pub anew : 16 ≤ trailingZeros 64 seen → Seen (pairAt s) i 64 m
   pub stored : d ≡ put d₀ o (take (reachOf seen) (drop i s))

@@ -9,13 +9,14 @@ use Rattle.packed.specs.Packing.{fits, fitted, Packs}
 use Rattle.packed.specs.declared.Fit.{Fit}
 use Rattle.packed.specs.Inner.{packedAs}
 use Rattle.stretches.specs.Inner.{Stopped}
+use Rattle.stretches.proofs.Stretch.{stopped-part}
 use Rattle.packed.proofs.Frame.{Frame, copied}
 use Rattle.pack_tail.proofs.PackSteps.{whole}
 
 -- k bytes on
 module _ (u : Found) (s d₀ d : List ℕ) (i o : ℕ) (g : Frame packedAs u s d₀ d i o) (d′ : List ℕ) (k v : ℕ) (t : Stopped s i d o k v d′) (hs : i + 20 ≤ length s) (hd : o + 20 ≤ length d) where
   pub stopped : Frame packedAs u s d₀ d′ (i + k) (o + k)
-  stopped = copied packedAs u s d₀ d i o g d′ k 17 (t .part) (omega (arith, t .few)) (omega arith) (omega arith) (t .stored)
+  stopped = copied packedAs u s d₀ d i o g d′ k 17 (stopped-part s i d o k v d′ t hs) (omega (arith, t .few)) (omega arith) (omega arith) (t .stored)
 
   pub stopped-block : k ≡ 16 → Frame packedAs u s d₀ d′ (i + 16) (o + 16)
   stopped-block e = subst (λ (n : ℕ). Frame packedAs u s d₀ d′ (i + n) (o + n)) e stopped

@@ -12,14 +12,14 @@ use lib.Count.{trailingZeros}
 use borrow.Author.Tests.{eqb-false, eq-eqb}
 use Rattle.slices.specs.Put.{put}
 use Rattle.flags.specs.Weight.{weight}
-use Rattle.flags.specs.Places.{Flagged, Seen}
+use Rattle.flags.specs.Places.{Flagged, Seen, Ahead}
 use Rattle.flags.proofs.Weights.{never, neither}
-use Rattle.flags.proofs.Places.{seen-flags, seen-clear, seen-first, seen-after, ahead-none}
+use Rattle.flags.proofs.Places.{seen-none, seen-flags, seen-clear, seen-first, seen-after}
 use Rattle.packed.specs.Packed.{bytes, front, packed}
 use Rattle.packed.specs.Packed.Steps.{plain-code}
 use Rattle.packed.specs.Inner.{Verbatim, packedAs}
 use Rattle.runs.specs.Inner.{unlikeAt}
-use Rattle.stretches.specs.Inner.{mayCode, Stopped}
+use Rattle.stretches.specs.Inner.{mayCode, mayCodeAt, Stopped}
 use Rattle.stores.proofs.Written.{at-block, put-over}
 use Rattle.runs.proofs.RunLength.{front-at}
 use Rattle.packed.proofs.Frame.{verbatim}
@@ -38,9 +38,15 @@ one-plain x xs c =
     let p = neither (eqb x 237) (eqb x (getD xs 0 0) && eqb (getD xs 3 0) (getD xs 0 0)) c in
     ap bytes (plain-code x xs (eqb-false x 237 (p .0)) (few x xs c))
 
--- whether a code may begin at p
-abbrev mayCodeAt : List ℕ → ℕ → Bool
-mayCodeAt s p = mayCode (getD s p 0) (getD s (p + 1) 0) (getD s (p + 4) 0)
+-- what is stopped before stands for itself, and the flags say something of what is ahead
+module _ (s : List ℕ) (i : ℕ) (d : List ℕ) (o k u : ℕ) (d′ : List ℕ) (t : Stopped s i d o k u d′) where
+  pub stopped-part : i + 20 ≤ length s → Verbatim packedAs s i k
+  stopped-part h =
+      verbatim packedAs (λ (l : List ℕ). mayCode (getD l 0 0) (getD l 1 0) (getD l 4 0) ≡ false) one-plain s i k (omega (arith, t .few))
+      (λ j l. rw (getD-drop (i + j) s 0 0, getD-drop (i + j) s 1 0, getD-drop (i + j) s 4 0, add-zero (i + j)) (t .before j l))
+
+  pub stopped-ahead : Ahead (unlikeAt s) (i + k) u
+  stopped-ahead = record { places = 16 - k; most = omega arith; seen = t .unlike }
 
 -- 17 bytes are stored, and 16 looked at
 module _ (s : List ℕ) (i : ℕ) (d d₁ d₂ : List ℕ) (o : ℕ) (b n f : List ℕ) (cu cs : List Bool) (u m : ℕ) (hs : i + 20 ≤ length s) (hd : o + 17 ≤ length d)
@@ -66,13 +72,15 @@ module _ (s : List ℕ) (i : ℕ) (d d₁ d₂ : List ℕ) (o : ℕ) (b n f : Li
       seen-flags (mayCodeAt s) _ i cs m gs em
       (λ j h. (λ z. mayCode (at-block s b i j eb h z) (next-at j h z) (fourth-at j h z)))
 
-  part : (k : ℕ) → k ≤ 16 → ((j : ℕ) → j < k → mayCodeAt s (i + j) ≡ false) → Verbatim packedAs s i k
-  part k few c =
-      verbatim packedAs (λ (l : List ℕ). mayCode (getD l 0 0) (getD l 1 0) (getD l 4 0) ≡ false) one-plain s i k (omega arith)
-      (λ j h. rw (getD-drop (i + j) s 0 0, getD-drop (i + j) s 1 0, getD-drop (i + j) s 4 0, add-zero (i + j)) (c j h))
-
   pub stopped-none : m ≡ 0 → Stopped s i d o 16 0 d₂
-  stopped-none z = record { few = omega arith; part = part 16 (omega arith) (seen-clear (mayCodeAt s) i 16 m stops z); unlike = ahead-none (unlikeAt s) (i + 16); stored = stored }
+  stopped-none z =
+      record {
+        few = omega arith;
+        before = seen-clear (mayCodeAt s) i 16 m stops z;
+        here = λ h. (let x : ⊥ = omega arith in absurd x);
+        unlike = seen-none (unlikeAt s) (i + 16);
+        stored = stored;
+      }
 
   pub stop-few : (m ≡ 0 → ⊥) → (k : ℕ) → k ≡ trailingZeros 64 m → k < 64
   stop-few z k ek = let w = seen-first (mayCodeAt s) i 16 m stops (omega arith) z in omega (arith, w .inside)
@@ -82,7 +90,8 @@ module _ (s : List ℕ) (i : ℕ) (d d₁ d₂ : List ℕ) (o : ℕ) (b n f : Li
       let w = seen-first (mayCodeAt s) i 16 m stops (omega arith) z in
       record {
         few = omega (arith, w .inside);
-        part = part k (omega (arith, w .inside)) (λ j h. w .before j (omega arith));
-        unlike = record { places = 16 - k; most = omega arith; seen = rw ev (seen-after (unlikeAt s) i 16 u unlike k) };
+        before = λ j h. w .before j (omega arith);
+        here = λ _. ap (λ (j : ℕ). mayCodeAt s (i + j)) ek ∙ w .here;
+        unlike = rw ev (seen-after (unlikeAt s) i 16 u unlike k);
         stored = stored;
       }

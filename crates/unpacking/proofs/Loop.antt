@@ -16,6 +16,7 @@ use Rattle.slices.specs.Put.{put}
 use Rattle.packed.specs.Unpacking.{answerOf, leftBy, Unpacks}
 use Rattle.packed.specs.Inner.{over, Verbatim}
 use Rattle.codes.specs.Inner.{pairAt, reachOf, Looked}
+use Rattle.codes.proofs.Codes.{NextCode, next-code}
 use Rattle.packed.specs.declared.Unpacked.{Unpacked}
 use Rattle.packed.specs.declared.Unpacked.the-variants.{Malformed}
 use Rattle.packed.proofs.Frame.{Frame, frame-none, copied}
@@ -48,22 +49,25 @@ reach-most m = go (ltb (trailingZeros 64 m) 16)
 
 -- up to the next ED ED, k bytes on
 module _ (s d₀ d : List ℕ) (i o m₀ : ℕ) (g : Unpacking s d₀ d i o m₀) (d′ : List ℕ) (m k : ℕ) (l : Looked s i d o m₀ m d′) (e : k ≡ trailingZeros 64 m) (hs : i + 68 ≤ length s) (hd : o + 96 ≤ length d) where
+  next : NextCode s i m₀ m
+  next = next-code s i d o m₀ m d′ (omega arith) (g .ahead) l
+
   reached : Frame unpacked (unpacked s) s d₀ d′ (i + k) (o + k)
   reached =
-      copied unpacked (unpacked s) s d₀ d i o (g .frame) d′ k (reachOf m₀) (subst (Verbatim unpacked s i) (sym e) (l .part)) (omega (arith, l .reach))
+      copied unpacked (unpacked s) s d₀ d i o (g .frame) d′ k (reachOf m₀) (subst (Verbatim unpacked s i) (sym e) (next .part)) (omega (arith, next .reach))
       (omega (arith, reach-most m₀)) (omega (arith, reach-most m₀)) (l .stored)
 
   long : length d′ ≡ length d
   long = let f = reached in f .long ∙ sym (g .frame .long)
 
   code : (k ≡ 64 → ⊥) → true ≡ pairAt s (i + k)
-  code h = l .code (omega (arith, first-few m k e)) ∙ ap (λ (n : ℕ). pairAt s (i + n)) (sym e)
+  code h = next .code (omega (arith, first-few m k e)) ∙ ap (λ (n : ℕ). pairAt s (i + n)) (sym e)
 
   pub unpacking-block : k ≡ 64 → Unpacking s d₀ d′ (i + 64) (o + 64) m
   unpacking-block h =
       record {
         frame = subst (λ (n : ℕ). Frame unpacked (unpacked s) s d₀ d′ (i + n) (o + n)) h reached;
-        ahead = spent s i (i + 64) m (l .ahead) (omega arith);
+        ahead = spent s i (i + 64) m (next .ahead) (omega arith);
       }
 
   module _ (n : ℕ) (h : k ≡ 64 → ⊥) (en : n ≡ getD s (i + k + 2) 0) where
@@ -82,7 +86,7 @@ module _ (s d₀ d : List ℕ) (i o m₀ : ℕ) (g : Unpacking s d₀ d i o m₀
       stored-run w p few j =
           record {
             frame = going-stored (unpacked s) s d₀ d′ (i + k) (o + k) reached true (code h) n fits refl en d″ w p z few j;
-            ahead = rw (e₂, e₁) (ahead-after (pairAt s) (i + k) (m / 2 ^ k) (ahead-after (pairAt s) i m (l .ahead) k) 4);
+            ahead = rw (e₂, e₁) (ahead-after (pairAt s) (i + k) (m / 2 ^ k) (ahead-after (pairAt s) i m (next .ahead) k) 4);
           }
 
       pub unpacking-run : d″ ≡ put d′ (o + k) (replicate n (getD s (i + k + 3) 0)) → o + k + n ≤ length d′ → Unpacking s d₀ d″ (i + k + 4) (o + k + n) m₂

@@ -3,6 +3,7 @@ use lib.ListN.{length}
 use Rattle.packed.specs.Inner.{packedAs}
 use Rattle.packed.proofs.Frame.{Frame, frame-none}
 use Rattle.pack_tail.proofs.PackSteps.{again-run-ed, again-run, again-single, again-four}
+use Rattle.stretches.proofs.Stretch.{stopped-ahead}
 use Rattle.packing.proofs.Loop.{stopped, stopped-block, rest-packed}
 use borrow.Author.Needs.{needs}
 use Rattle.packing.proofs.pack.Statement.{statement}
@@ -57,7 +58,7 @@ shared-slice-read-v : tie.Need-shared-slice-read-v Inv-loop μ-loop
 shared-slice-read-v c = search needs
 
 run-from-requires : tie.Need-run-from-requires Inv-loop μ-loop
-run-from-requires c κs = search needs
+run-from-requires c κs = (search needs, search stopped-ahead)
 
 put-run-requires : tie.Need-put-run-requires Inv-loop μ-loop
 put-run-requires c κs = search needs
