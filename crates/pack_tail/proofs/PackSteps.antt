@@ -2,11 +2,14 @@
 use Prim.Native.Nat.{ℕ, _+_, _-_, _≤_, _<_}
 use native.Mathlib.Omega.{arith}
 use mathlib.Core.Path.{_≡_, refl, sym, ap, _∙_}
+use mathlib.Core.Bool.{Bool, true, false}
 use mathlib.Core.List.{List, [], _∷_, _++_, append-nil}
 use lib.ListN.{length, getD, take, drop, replicate, length-append, length-replicate, drop-of-length-le}
 use lib.Seq.{length-take-le}
-use borrow.Author.Tests.{le-leb, lt-leb}
-use Rattle.packed.specs.Packed.{bytes, packed}
+use lib.Dec.{eqb}
+use borrow.Author.Tests.{le-leb, lt-leb, eq-eqb, ne-eqb, eqb-true, eqb-false}
+use Rattle.slices.specs.Choose.{choose}
+use Rattle.packed.specs.Packed.{ED, bytes, packed}
 use Rattle.packed.specs.Packed.Steps.{packed-nil}
 use Rattle.packed.specs.Packing.{Packs}
 use Rattle.packed.specs.Inner.{packedAs}
@@ -57,9 +60,6 @@ module _ (ps s d₀ d : List ℕ) (i o : ℕ) (g : Frame packedAs (bytes ps) s d
       pub again-single : d′ ≡ put d o (getD s i 0 ∷ getD s (i + 1) 0 ∷ []) → getD s i 0 ≡ 237 → r < 2 → i + 1 < length s → o + 2 ≤ length d → Frame packedAs (bytes ps) s d₀ d′ (i + 2) (o + 2)
       again-single p e k j m = again _ d′ (i + 2) (o + 2) (next-single s i h r l e k j) (stored-put d d′ _ o m p) refl m
 
-      pub again-last : d′ ≡ put d o (getD s i 0 ∷ []) → getD s i 0 ≡ 237 → r < 2 → length s ≤ i + 1 → o < length d → Frame packedAs (bytes ps) s d₀ d′ (i + 1) (o + 1)
-      again-last p e k j m = again _ d′ (i + 1) (o + 1) (next-last s i h r l e k j) (stored-put d d′ _ o (omega arith) p) refl (omega arith)
-
       -- n of the byte were stored, of which r count
       again-stored : (n : ℕ) → d′ ≡ put d o (replicate n (getD s i 0)) → (getD s i 0 ≡ 237 → ⊥) → r < 5 → r ≤ n → o + n ≤ length d → Frame packedAs (bytes ps) s d₀ d′ (i + r) (o + r)
       again-stored n p e k few m =
@@ -67,24 +67,46 @@ module _ (ps s d₀ d : List ℕ) (i o : ℕ) (g : Frame packedAs (bytes ps) s d
           again _ d′ (i + r) (o + r) (next-short s i h r l e k) (put-fewer d d′ o r n v few m (stored-put d d′ (replicate n v) o (omega (arith, length-replicate n v)) p))
           (ap (λ (n : ℕ). o + n) (length-replicate r v)) (omega arith)
 
-      pub again-short : d′ ≡ put d o (replicate r (getD s i 0)) → (getD s i 0 ≡ 237 → ⊥) → r < 5 → o + r ≤ length d → Frame packedAs (bytes ps) s d₀ d′ (i + r) (o + r)
-      again-short p e k m = again-stored r p e k (omega arith) m
-
       pub again-four : d′ ≡ put d o (replicate 4 (getD s i 0)) → (getD s i 0 ≡ 237 → ⊥) → r < 5 → o + 4 ≤ length d → Frame packedAs (bytes ps) s d₀ d′ (i + r) (o + r)
       again-four p e k m = again-stored 4 p e k (omega arith) m
 
-  module _ (a : Fit) (d′ : List ℕ) (c : (a ≡ TooShort) × (d′ ≡ replicate (length d) 0)) (h : i < length s) (r : ℕ) (l : RunLeft s i r) where
-    pub short-run-ed : getD s i 0 ≡ 237 → 2 ≤ r → length d < o + 4 → Packs ps (length d₀) a d′
-    short-run-ed e k m = short _ (i + r) (next-run-ed s i h r l e k) m a d′ c
+  -- a run of the byte at i has a code from c on
+  module _ (h : i < length s) (r : ℕ) (l : RunLeft s i r) (c : ℕ) (ec : c ≡ choose (eqb (getD s i 0) ED) 2 5) where
+    from-two : getD s i 0 ≡ 237 → c ≡ 2
+    from-two e = ec ∙ rw (eq-eqb (getD s i 0) 237 e)
 
-    pub short-run : (getD s i 0 ≡ 237 → ⊥) → 5 ≤ r → length d < o + 4 → Packs ps (length d₀) a d′
-    short-run e k m = short _ (i + r) (next-run s i h r l e k) m a d′ c
+    from-five : (getD s i 0 ≡ 237 → ⊥) → c ≡ 5
+    from-five e = ec ∙ rw (ne-eqb (getD s i 0) 237 e)
 
-    pub short-single : getD s i 0 ≡ 237 → r < 2 → i + 1 < length s → length d < o + 2 → Packs ps (length d₀) a d′
-    short-single e k j m = short _ (i + 2) (next-single s i h r l e k j) m a d′ c
+    coded : c ≤ r → Coded s i (237 ∷ 237 ∷ r ∷ getD s i 0 ∷ []) (i + r)
+    coded k = go (eqb (getD s i 0) 237) refl
+      where
+        go : (t : Bool) → eqb (getD s i 0) 237 ≡ t → Coded s i (237 ∷ 237 ∷ r ∷ getD s i 0 ∷ []) (i + r)
+        go true e = let v = eqb-true (getD s i 0) 237 e in next-run-ed s i h r l v (omega (arith, from-two v))
+        go false e = let v = eqb-false (getD s i 0) 237 e in next-run s i h r l v (omega (arith, from-five v))
 
-    pub short-last : getD s i 0 ≡ 237 → r < 2 → length s ≤ i + 1 → length d ≤ o → Packs ps (length d₀) a d′
-    short-last e k j m = short _ (i + 1) (next-last s i h r l e k j) (omega arith) a d′ c
+    module _ (d′ : List ℕ) where
+      pub again-coded : d′ ≡ put d o (237 ∷ 237 ∷ r ∷ getD s i 0 ∷ []) → c ≤ r → o + 4 ≤ length d → Frame packedAs (bytes ps) s d₀ d′ (i + r) (o + 4)
+      again-coded p k m = again _ d′ (i + r) (o + 4) (coded k) (stored-put d d′ _ o m p) refl m
 
-    pub short-short : (getD s i 0 ≡ 237 → ⊥) → r < 5 → length d < o + r → Packs ps (length d₀) a d′
-    short-short e k m = short _ (i + r) (next-short s i h r l e k) (omega (arith, length-replicate r (getD s i 0))) a d′ c
+      pub again-plain : d′ ≡ put d o (replicate r (getD s i 0)) → (getD s i 0 ≡ 237 → ⊥) → r < c → o + r ≤ length d → Frame packedAs (bytes ps) s d₀ d′ (i + r) (o + r)
+      again-plain p e k m = again-stored d′ h r l r p e (omega (arith, from-five e)) (omega arith) m
+
+      pub again-two : d′ ≡ put d o (getD s i 0 ∷ getD s (i + 1) 0 ∷ []) → getD s i 0 ≡ 237 → r < c → i + 1 < length s → o + 2 ≤ length d → Frame packedAs (bytes ps) s d₀ d′ (i + 2) (o + 2)
+      again-two p e k j m = again-single d′ h r l p e (omega (arith, from-two e)) j m
+
+      pub again-last : d′ ≡ put d o (getD s i 0 ∷ []) → getD s i 0 ≡ 237 → r < c → length s ≤ i + 1 → o < length d → Frame packedAs (bytes ps) s d₀ d′ (i + 1) (o + 1)
+      again-last p e k j m = again _ d′ (i + 1) (o + 1) (next-last s i h r l e (omega (arith, from-two e)) j) (stored-put d d′ _ o (omega arith) p) refl (omega arith)
+
+    module _ (a : Fit) (d′ : List ℕ) (z : (a ≡ TooShort) × (d′ ≡ replicate (length d) 0)) where
+      pub short-coded : c ≤ r → length d < o + 4 → Packs ps (length d₀) a d′
+      short-coded k m = short _ (i + r) (coded k) m a d′ z
+
+      pub short-plain : (getD s i 0 ≡ 237 → ⊥) → r < c → length d < o + r → Packs ps (length d₀) a d′
+      short-plain e k m = short _ (i + r) (next-short s i h r l e (omega (arith, from-five e))) (omega (arith, length-replicate r (getD s i 0))) a d′ z
+
+      pub short-two : getD s i 0 ≡ 237 → r < c → i + 1 < length s → length d < o + 2 → Packs ps (length d₀) a d′
+      short-two e k j m = short _ (i + 2) (next-single s i h r l e (omega (arith, from-two e)) j) m a d′ z
+
+      pub short-last : getD s i 0 ≡ 237 → r < c → length s ≤ i + 1 → length d ≤ o → Packs ps (length d₀) a d′
+      short-last e k j m = short _ (i + 1) (next-last s i h r l e (omega (arith, from-two e)) j) (omega arith) a d′ z

@@ -5,8 +5,10 @@ ghost use Prim.Native.Nat.{_+_, _≤_, _<_};
 ghost use mathlib.Core.List.{_∷_, [], _++_};
 ghost use mathlib.Core.Path.{_≡_};
 ghost use lib.ListN.{length, take, drop, replicate};
+ghost use lib.Dec.{eqb};
+ghost use Rattle.slices.specs.Choose.{choose};
 ghost use Rattle.slices.specs.Put.{put};
-ghost use Rattle.packed.specs.Packed.{packed};
+ghost use Rattle.packed.specs.Packed.{ED, packed};
 ghost use Rattle.packed.specs.Packing.{Packs};
 ghost use Rattle.packed.specs.declared.Fit.the-variants.{TooShort};
 
@@ -21,37 +23,14 @@ pub fn pack_rest(src: &[u8], from: usize, dst: &mut [u8], at: usize) -> Fit
     while i < src.len() {
         let v = src[i];
         let n = run_at(src, i);
-        if v == 237 {
-            if 2 <= n {
-                if dst.len() < o + 4 {
-                    return too_short(dst);
-                }
-                put_run(dst, o, n, v);
-                o += 4;
-                i += n;
-            } else if i + 1 < src.len() {
-                if dst.len() < o + 2 {
-                    return too_short(dst);
-                }
-                stores::put_two(dst, o, v, src[i + 1]);
-                o += 2;
-                i += 2;
-            } else {
-                if dst.len() <= o {
-                    return too_short(dst);
-                }
-                stores::put_one(dst, o, v);
-                o += 1;
-                i += 1;
-            }
-        } else if 5 <= n {
+        if code_from(v) <= n {
             if dst.len() < o + 4 {
                 return too_short(dst);
             }
             put_run(dst, o, n, v);
             o += 4;
             i += n;
-        } else {
+        } else if v != 237 {
             let e = o + n;
             if dst.len() < e {
                 return too_short(dst);
@@ -59,10 +38,31 @@ pub fn pack_rest(src: &[u8], from: usize, dst: &mut [u8], at: usize) -> Fit
             stores::fill_run(dst, o, n, v);
             o = e;
             i += n;
+        } else if i + 1 < src.len() {
+            if dst.len() < o + 2 {
+                return too_short(dst);
+            }
+            stores::put_two(dst, o, v, src[i + 1]);
+            o += 2;
+            i += 2;
+        } else {
+            if dst.len() <= o {
+                return too_short(dst);
+            }
+            stores::put_one(dst, o, v);
+            o += 1;
+            i += 1;
         }
     }
     slices::clear_from(dst, o);
     Fit::Length(o)
+}
+
+// From how many on a run of v has a code.
+fn code_from(v: u8) -> usize
+    ensures { λ r. ⌜ r ≡ choose (eqb v ED) 2 5 ⌝ }
+{
+    if v == 237 { 2 } else { 5 }
 }
 
 fn too_short(dst: &mut [u8]) -> Fit

@@ -48,7 +48,7 @@ reach-most m = go (ltb (trailingZeros 64 m) 16)
     go false = omega arith
 
 -- up to the next ED ED, k bytes on
-module _ (s d₀ d : List ℕ) (i o m₀ : ℕ) (g : Unpacking s d₀ d i o m₀) (d′ : List ℕ) (m k : ℕ) (l : Looked s i d o m₀ m d′) (e : k ≡ trailingZeros 64 m) (hs : i + 68 ≤ length s) (hd : o + 96 ≤ length d) where
+module _ (s d₀ d : List ℕ) (i o m₀ : ℕ) (g : Unpacking s d₀ d i o m₀) (d′ : List ℕ) (m k : ℕ) (l : Looked s i d o m₀ m d′) (e : k ≡ trailingZeros 64 m) (hs : i + 68 ≤ length s) (hd : o + 64 ≤ length d) where
   next : NextCode s i m₀ m
   next = next-code s i d o m₀ m d′ (omega arith) (g .ahead) l
 
@@ -92,8 +92,8 @@ module _ (s d₀ d : List ℕ) (i o m₀ : ℕ) (g : Unpacking s d₀ d i o m₀
       pub unpacking-run : d″ ≡ put d′ (o + k) (replicate n (getD s (i + k + 3) 0)) → o + k + n ≤ length d′ → Unpacking s d₀ d″ (i + k + 4) (o + k + n) m₂
       unpacking-run p j = stored-run n p (omega arith) j
 
-      pub unpacking-short : d″ ≡ put d′ (o + k) (replicate 32 (getD s (i + k + 3) 0)) → n ≤ 32 → Unpacking s d₀ d″ (i + k + 4) (o + k + n) m₂
-      unpacking-short p few = stored-run 32 p few (omega (arith, long, first-few m k e))
+      pub unpacking-short : d″ ≡ put d′ (o + k) (replicate 32 (getD s (i + k + 3) 0)) → n ≤ 32 → o + 96 ≤ length d → Unpacking s d₀ d″ (i + k + 4) (o + k + n) m₂
+      unpacking-short p few room = stored-run 32 p few (omega (arith, long, first-few m k e))
 
 -- the rest is another's
 pub rest-into : (s d₀ d : List ℕ) (i o m : ℕ) → Unpacking s d₀ d i o m → (a : Unpacked) (d′ : List ℕ) → Unpacks (before (take o d) (unpacked (drop i s))) (length d) a d′

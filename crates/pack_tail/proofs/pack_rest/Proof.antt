@@ -4,7 +4,7 @@ use Prim.Native.Nat.{_-_}
 use Rattle.packed.specs.Packed.{bytes, packed}
 use Rattle.packed.specs.Inner.{packedAs}
 use Rattle.packed.proofs.Frame.{Frame, frame-from}
-use Rattle.pack_tail.proofs.PackSteps.{packed-all, again-run-ed, again-run, again-single, again-last, again-short, short-run-ed, short-run, short-single, short-last, short-short}
+use Rattle.pack_tail.proofs.PackSteps.{again-coded, again-plain, again-two, again-last, short-coded, short-plain, short-two, short-last, packed-all}
 use borrow.Author.Needs.{needs}
 use Rattle.pack_tail.proofs.pack_rest.Statement.{statement}
 use Rattle.pack_tail.proofs.pack_rest.Tie as tie
@@ -24,8 +24,11 @@ shared-slice-read-v c = search needs
 run-at-requires : tie.Need-run-at-requires Inv-loop μ-loop
 run-at-requires c κs = search needs
 
-add-if3 : tie.Need-add-if3 Inv-loop μ-loop
-add-if3 c = search needs
+code-from-requires : tie.Need-code-from-requires Inv-loop μ-loop
+code-from-requires c κs = search needs
+
+add-if2 : tie.Need-add-if2 Inv-loop μ-loop
+add-if2 c = search needs
 
 too-short-requires : tie.Need-too-short-requires Inv-loop μ-loop
 too-short-requires c κs = search needs
@@ -34,7 +37,7 @@ same-length : tie.Need-same-length Inv-loop μ-loop
 same-length c = search needs
 
 returns : tie.Need-returns Inv-loop μ-loop
-returns c = search short-run-ed
+returns c = search short-coded
 
 put-run-requires : tie.Need-put-run-requires Inv-loop μ-loop
 put-run-requires c κs = search needs
@@ -49,13 +52,10 @@ loop-less : tie.Need-loop-less Inv-loop μ-loop
 loop-less c = search needs
 
 loop-again : tie.Need-loop-again Inv-loop μ-loop
-loop-again c = search again-run-ed
+loop-again c = search again-coded
 
-add-if4 : tie.Need-add-if4 Inv-loop μ-loop
-add-if4 c = search needs
-
-add-if5 : tie.Need-add-if5 Inv-loop μ-loop
-add-if5 c = search needs
+add-e : tie.Need-add-e Inv-loop μ-loop
+add-e c = search needs
 
 too-short-requires-2 : tie.Need-too-short-requires-2 Inv-loop μ-loop
 too-short-requires-2 c κs = search needs
@@ -64,7 +64,34 @@ same-length-2 : tie.Need-same-length-2 Inv-loop μ-loop
 same-length-2 c = search needs
 
 returns-2 : tie.Need-returns-2 Inv-loop μ-loop
-returns-2 c = search short-single
+returns-2 c = search short-plain
+
+fill-run-requires : tie.Need-fill-run-requires Inv-loop μ-loop
+fill-run-requires c κs = search needs
+
+add-i-2 : tie.Need-add-i-2 Inv-loop μ-loop
+add-i-2 c = search needs
+
+loop-less-2 : tie.Need-loop-less-2 Inv-loop μ-loop
+loop-less-2 c = search needs
+
+loop-again-2 : tie.Need-loop-again-2 Inv-loop μ-loop
+loop-again-2 c = search again-plain
+
+add-if5 : tie.Need-add-if5 Inv-loop μ-loop
+add-if5 c = search needs
+
+add-if6 : tie.Need-add-if6 Inv-loop μ-loop
+add-if6 c = search needs
+
+too-short-requires-3 : tie.Need-too-short-requires-3 Inv-loop μ-loop
+too-short-requires-3 c κs = search needs
+
+same-length-3 : tie.Need-same-length-3 Inv-loop μ-loop
+same-length-3 c = search needs
+
+returns-3 : tie.Need-returns-3 Inv-loop μ-loop
+returns-3 c = search short-two
 
 add-put-two : tie.Need-add-put-two Inv-loop μ-loop
 add-put-two c = search needs
@@ -78,30 +105,6 @@ put-two-requires c κs = search needs
 add-o-2 : tie.Need-add-o-2 Inv-loop μ-loop
 add-o-2 c = search needs
 
-add-i-2 : tie.Need-add-i-2 Inv-loop μ-loop
-add-i-2 c = search needs
-
-loop-less-2 : tie.Need-loop-less-2 Inv-loop μ-loop
-loop-less-2 c = search needs
-
-loop-again-2 : tie.Need-loop-again-2 Inv-loop μ-loop
-loop-again-2 c = search again-single
-
-too-short-requires-3 : tie.Need-too-short-requires-3 Inv-loop μ-loop
-too-short-requires-3 c κs = search needs
-
-same-length-3 : tie.Need-same-length-3 Inv-loop μ-loop
-same-length-3 c = search needs
-
-returns-3 : tie.Need-returns-3 Inv-loop μ-loop
-returns-3 c = search short-last
-
-put-one-requires : tie.Need-put-one-requires Inv-loop μ-loop
-put-one-requires c κs = search needs
-
-add-o-3 : tie.Need-add-o-3 Inv-loop μ-loop
-add-o-3 c = search needs
-
 add-i-3 : tie.Need-add-i-3 Inv-loop μ-loop
 add-i-3 c = search needs
 
@@ -109,10 +112,7 @@ loop-less-3 : tie.Need-loop-less-3 Inv-loop μ-loop
 loop-less-3 c = search needs
 
 loop-again-3 : tie.Need-loop-again-3 Inv-loop μ-loop
-loop-again-3 c = search again-last
-
-add-if8 : tie.Need-add-if8 Inv-loop μ-loop
-add-if8 c = search needs
+loop-again-3 c = again-two _ _ _ _ _ _ (c .before .before .before .before .before .before .before .before .before .before .before .before .before .loop .inv) (search needs) _ (c .before .before .before .before .before .before .before .before .before .before .run-at .ensures) _ (c .before .before .before .before .before .before .before .before .before .code-from .ensures) _ (c .before .before .put-two .ensures) (search needs) (search needs) (search needs) (search needs)
 
 too-short-requires-4 : tie.Need-too-short-requires-4 Inv-loop μ-loop
 too-short-requires-4 c κs = search needs
@@ -121,13 +121,13 @@ same-length-4 : tie.Need-same-length-4 Inv-loop μ-loop
 same-length-4 c = search needs
 
 returns-4 : tie.Need-returns-4 Inv-loop μ-loop
-returns-4 c = search short-run
+returns-4 c = search short-last
 
-put-run-requires-2 : tie.Need-put-run-requires-2 Inv-loop μ-loop
-put-run-requires-2 c κs = search needs
+put-one-requires : tie.Need-put-one-requires Inv-loop μ-loop
+put-one-requires c κs = search needs
 
-add-o-4 : tie.Need-add-o-4 Inv-loop μ-loop
-add-o-4 c = search needs
+add-o-3 : tie.Need-add-o-3 Inv-loop μ-loop
+add-o-3 c = search needs
 
 add-i-4 : tie.Need-add-i-4 Inv-loop μ-loop
 add-i-4 c = search needs
@@ -136,40 +136,16 @@ loop-less-4 : tie.Need-loop-less-4 Inv-loop μ-loop
 loop-less-4 c = search needs
 
 loop-again-4 : tie.Need-loop-again-4 Inv-loop μ-loop
-loop-again-4 c = search again-run
+loop-again-4 c = search again-last
 
-add-e : tie.Need-add-e Inv-loop μ-loop
-add-e c = search needs
-
-too-short-requires-5 : tie.Need-too-short-requires-5 Inv-loop μ-loop
-too-short-requires-5 c κs = search needs
+clear-from-requires : tie.Need-clear-from-requires Inv-loop μ-loop
+clear-from-requires c κs = search needs
 
 same-length-5 : tie.Need-same-length-5 Inv-loop μ-loop
 same-length-5 c = search needs
 
 returns-5 : tie.Need-returns-5 Inv-loop μ-loop
-returns-5 c = search short-short
-
-fill-run-requires : tie.Need-fill-run-requires Inv-loop μ-loop
-fill-run-requires c κs = search needs
-
-add-i-5 : tie.Need-add-i-5 Inv-loop μ-loop
-add-i-5 c = search needs
-
-loop-less-5 : tie.Need-loop-less-5 Inv-loop μ-loop
-loop-less-5 c = search needs
-
-loop-again-5 : tie.Need-loop-again-5 Inv-loop μ-loop
-loop-again-5 c = search again-short
-
-clear-from-requires : tie.Need-clear-from-requires Inv-loop μ-loop
-clear-from-requires c κs = search needs
-
-same-length-6 : tie.Need-same-length-6 Inv-loop μ-loop
-same-length-6 c = search needs
-
-returns-6 : tie.Need-returns-6 Inv-loop μ-loop
-returns-6 c = search packed-all
+returns-5 c = search packed-all
 
 pub pack-rest-spec : {M : Type 1} → statement M
 pack-rest-spec =
@@ -180,7 +156,8 @@ pack-rest-spec =
     loop-holds
     shared-slice-read-v
     run-at-requires
-    add-if3
+    code-from-requires
+    add-if2
     too-short-requires
     same-length
     returns
@@ -189,43 +166,34 @@ pack-rest-spec =
     add-i
     loop-less
     loop-again
-    add-if4
-    add-if5
+    add-e
     too-short-requires-2
     same-length-2
     returns-2
+    fill-run-requires
+    add-i-2
+    loop-less-2
+    loop-again-2
+    add-if5
+    add-if6
+    too-short-requires-3
+    same-length-3
+    returns-3
     add-put-two
     shared-slice-read-put-two
     put-two-requires
     add-o-2
-    add-i-2
-    loop-less-2
-    loop-again-2
-    too-short-requires-3
-    same-length-3
-    returns-3
-    put-one-requires
-    add-o-3
     add-i-3
     loop-less-3
     loop-again-3
-    add-if8
     too-short-requires-4
     same-length-4
     returns-4
-    put-run-requires-2
-    add-o-4
+    put-one-requires
+    add-o-3
     add-i-4
     loop-less-4
     loop-again-4
-    add-e
-    too-short-requires-5
-    same-length-5
-    returns-5
-    fill-run-requires
-    add-i-5
-    loop-less-5
-    loop-again-5
     clear-from-requires
-    same-length-6
-    returns-6)
+    same-length-5
+    returns-5)

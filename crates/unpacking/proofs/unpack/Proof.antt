@@ -109,7 +109,7 @@ loop-again-2 c =
     let l = c .before .before .before .before .before .before .before .before .before .before .before .before .before .before .before .look .ensures in
     let f = c .before .before .before .before .before .before .before .before .before .before .before .before .first .ensures .0 in
     let p = c .before .before .before .before .fill-32 .ensures in
-    unpacking-short _ _ _ _ _ _ g _ _ _ l f (search needs) (search needs) _ (c .before .before .before .before .before .before .before .before .before .before .before .if2 .left) (search needs) _ (search needs) _ _ (c .before .after .ensures) (c .after2 .ensures) p (search needs)
+    unpacking-short _ _ _ _ _ _ g _ _ _ l f (search needs) (search needs) _ (c .before .before .before .before .before .before .before .before .before .before .before .if2 .left) (search needs) _ (search needs) _ _ (c .before .after .ensures) (c .after2 .ensures) p (search needs) (search needs)
 
 add-e : tie.Need-add-e Inv-loop μ-loop
 add-e c = search needs

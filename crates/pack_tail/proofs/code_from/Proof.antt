@@ -1,0 +1,12 @@
+use borrow.Author.Tests.{eq-eqb, ne-eqb}
+use Rattle.pack_tail.proofs.code_from.Statement.{statement}
+use Rattle.pack_tail.proofs.code_from.Tie as tie
+
+returns : tie.Need-returns
+returns c = simp (eq-eqb _ _ (c .if1 .taken))
+
+returns-2 : tie.Need-returns-2
+returns-2 c = simp (ne-eqb _ _ (c .if1 .left))
+
+pub code-from-spec : {M : Type 1} → statement M
+code-from-spec = tie.close (tie.spec returns returns-2)
