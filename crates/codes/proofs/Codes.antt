@@ -16,10 +16,9 @@ use Rattle.flags.specs.Places.{Flagged, Seen, Ahead}
 use Rattle.flags.proofs.Places.{seen-none, seen-flags, seen-join, seen-clear, seen-first, some-set}
 use Rattle.packed.specs.Packed.{pair, before, unpacked}
 use Rattle.packed.specs.Packed.Steps.{front-plain}
-use Rattle.packed.specs.Inner.{Verbatim}
 use Rattle.codes.specs.Inner.{pairAt, reachOf, Copied16, Looked}
 use Rattle.stores.proofs.Written.{at-block, block-long, put-none, put-more}
-use Rattle.packed.proofs.Frame.{verbatim}
+use Rattle.packed.proofs.Frame.{Verbatim, verbatim}
 use Rattle.codes.proofs.Pair.{pair-there}
 
 pub copied-16 : (s : List ℕ) (i : ℕ) (d : List ℕ) (o : ℕ) (b n d′ : List ℕ) (c : List Bool) (m : ℕ) → i + 17 ≤ length s → o + 16 ≤ length d → b ≡ take 16 (drop i s)

@@ -12,11 +12,10 @@ use Rattle.slices.specs.Choose.{choose}
 use Rattle.packed.specs.Packed.{ED, bytes, packed}
 use Rattle.packed.specs.Packed.Steps.{packed-nil}
 use Rattle.packed.specs.Packing.{Packs}
-use Rattle.packed.specs.Inner.{packedAs}
 use Rattle.runs.specs.Inner.{RunLeft}
 use Rattle.slices.specs.Put.{put}
 use Rattle.stores.proofs.Written.{Stored, stored-put, put-fewer}
-use Rattle.packed.proofs.Frame.{Frame, onward}
+use Rattle.packed.proofs.Frame.{packedAs, Frame, onward}
 use Rattle.packed.specs.declared.Fit.{Fit}
 use Rattle.packed.specs.declared.Fit.the-variants.{Length, TooShort}
 use Rattle.runs.proofs.RunCodes.{Coded, next-run-ed, next-run, next-short, next-single, next-last}

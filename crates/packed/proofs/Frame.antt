@@ -6,8 +6,7 @@ use mathlib.Core.Path.{_≡_, refl, sym, ap, _∙_}
 use mathlib.Core.List.{List, [], _∷_, _++_, append-assoc}
 use lib.ListN.{length, take, drop, length-drop}
 use lib.Seq.{drop-drop, length-take-le}
-use Rattle.packed.specs.Packed.{Found, malformed, bytes, before}
-use Rattle.packed.specs.Inner.{Verbatim}
+use Rattle.packed.specs.Packed.{Found, malformed, bytes, before, packed}
 use Rattle.slices.specs.Put.{put}
 use Rattle.stores.proofs.Written.{Stored, put-front}
 
@@ -23,6 +22,15 @@ before-before xs ys (bytes zs) = ap bytes (sym (append-assoc xs ys zs))
 pub record Next (f : List ℕ → Found) (s : List ℕ) (i : ℕ) (ws : List ℕ) (j : ℕ) : Type 0 where
   pub step : f (drop i s) ≡ before ws (f (drop j s))
   pub inside : j ≤ length s
+
+-- under f the first k bytes of s from i on stand for themselves
+pub record Verbatim (f : List ℕ → Found) (s : List ℕ) (i k : ℕ) : Type 0 where
+  pub inside : i + k ≤ length s
+  pub step : f (drop i s) ≡ before (take k (drop i s)) (f (drop (i + k) s))
+
+-- the packed form, as something found
+abbrev pub packedAs : List ℕ → Found
+packedAs xs = bytes (packed xs)
 
 -- under f all stands for u: i bytes of s are read, and what they stand for is in d, which was d₀, up to o
 pub record Frame (f : List ℕ → Found) (u : Found) (s d₀ d : List ℕ) (i o : ℕ) : Type 0 where

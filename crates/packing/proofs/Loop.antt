@@ -7,10 +7,9 @@ use lib.ListN.{length, take, drop}
 use Rattle.packed.specs.Packed.{Found, bytes, packed}
 use Rattle.packed.specs.Packing.{fits, fitted, Packs}
 use Rattle.packed.specs.declared.Fit.{Fit}
-use Rattle.packed.specs.Inner.{packedAs}
 use Rattle.stretches.specs.Inner.{Stopped}
 use Rattle.stretches.proofs.Stretch.{stopped-part}
-use Rattle.packed.proofs.Frame.{Frame, copied}
+use Rattle.packed.proofs.Frame.{packedAs, Frame, copied}
 use Rattle.pack_tail.proofs.PackSteps.{whole}
 
 -- k bytes on

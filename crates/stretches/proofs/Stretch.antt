@@ -17,12 +17,11 @@ use Rattle.flags.proofs.Weights.{never, neither}
 use Rattle.flags.proofs.Places.{seen-none, seen-flags, seen-clear, seen-first, seen-after}
 use Rattle.packed.specs.Packed.{bytes, front, packed}
 use Rattle.packed.specs.Packed.Steps.{plain-code}
-use Rattle.packed.specs.Inner.{Verbatim, packedAs}
 use Rattle.runs.specs.Inner.{unlikeAt}
 use Rattle.stretches.specs.Inner.{mayCode, mayCodeAt, Stopped}
 use Rattle.stores.proofs.Written.{at-block, put-over}
 use Rattle.runs.proofs.RunLength.{front-at}
-use Rattle.packed.proofs.Frame.{verbatim}
+use Rattle.packed.proofs.Frame.{Verbatim, packedAs, verbatim}
 
 -- where no code may begin, a byte packs to itself
 few : (x : ℕ) (xs : List ℕ) → mayCode x (getD xs 0 0) (getD xs 3 0) ≡ false → front x xs < 4

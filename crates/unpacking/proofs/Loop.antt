@@ -14,12 +14,12 @@ use Rattle.packed.specs.Packed.{before, unpacked}
 use Rattle.slices.specs.Choose.{choose}
 use Rattle.slices.specs.Put.{put}
 use Rattle.packed.specs.Unpacking.{answerOf, leftBy, Unpacks}
-use Rattle.packed.specs.Inner.{over, Verbatim}
+use Rattle.packed.specs.Inner.{over}
 use Rattle.codes.specs.Inner.{pairAt, reachOf, Looked}
 use Rattle.codes.proofs.Codes.{NextCode, next-code}
 use Rattle.packed.specs.declared.Unpacked.{Unpacked}
 use Rattle.packed.specs.declared.Unpacked.the-variants.{Malformed}
-use Rattle.packed.proofs.Frame.{Frame, frame-none, copied}
+use Rattle.packed.proofs.Frame.{Verbatim, Frame, frame-none, copied}
 use Rattle.unpack_tail.proofs.UnpackSteps.{zero-into, full-run, going-stored}
 
 -- the frame, and what was seen ahead

@@ -2,8 +2,7 @@ use lib.ListN.{length, take, drop}
 use mathlib.Core.List.{_++_}
 use Prim.Native.Nat.{_-_}
 use Rattle.packed.specs.Packed.{bytes, packed}
-use Rattle.packed.specs.Inner.{packedAs}
-use Rattle.packed.proofs.Frame.{Frame, frame-from}
+use Rattle.packed.proofs.Frame.{packedAs, Frame, frame-from}
 use Rattle.pack_tail.proofs.PackSteps.{again-coded, again-plain, again-two, again-last, short-coded, short-plain, short-two, short-last, packed-all}
 use borrow.Author.Needs.{needs}
 use Rattle.pack_tail.proofs.pack_rest.Statement.{statement}

@@ -1,7 +1,6 @@
 use Prim.Native.Nat.{_-_}
 use lib.ListN.{length}
-use Rattle.packed.specs.Inner.{packedAs}
-use Rattle.packed.proofs.Frame.{Frame, frame-none}
+use Rattle.packed.proofs.Frame.{packedAs, Frame, frame-none}
 use Rattle.pack_tail.proofs.PackSteps.{again-run-ed, again-run, again-single, again-four}
 use Rattle.stretches.proofs.Stretch.{stopped-ahead}
 use Rattle.packing.proofs.Loop.{stopped, stopped-block, rest-packed}
