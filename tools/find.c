@@ -58,7 +58,7 @@ static size_t lay_in_a_row(const struct machine *m, const struct opened *opened,
     return length;
 }
 
-/* The place is where the second half of the columns begins. */
+/* A place, and the bytes from there on, in a line of 72 columns. */
 static void print_place(FILE *to, const struct machine *m, unsigned page, size_t offset, bool crosses,
                         const struct span *row)
 {
@@ -72,7 +72,7 @@ static void print_place(FILE *to, const struct machine *m, unsigned page, size_t
                                      places[at] + (unsigned)offset);
     }
     fprintf(to, "page %u offset %04X  %-16s", page, (unsigned)offset, text);
-    print_columns(to, row, (long)offset - 8);
+    print_columns(to, row, (long)offset, 8);
 }
 
 void print_places(FILE *to, const struct opened *opened, const struct sought *sought)

@@ -164,8 +164,8 @@ struct span {
     const uint8_t *bytes;
     long first, last;
 };
-/* Sixteen places from `start` on as hex and text; those outside the span are blank. */
-void print_columns(FILE *to, const struct span *span, long start);
+/* Up to sixteen places from `start` on as hex and text; those outside the span are blank. */
+void print_columns(FILE *to, const struct span *span, long start, int columns);
 
 /* find.c: every place of some bytes in the pages of a machine. */
 struct sought {

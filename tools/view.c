@@ -5,10 +5,10 @@
 
 #define COLUMNS 16
 
-void print_columns(FILE *to, const struct span *span, long start)
+void print_columns(FILE *to, const struct span *span, long start, int columns)
 {
     char text[COLUMNS + 1] = "";
-    for (int column = 0; column < COLUMNS; column++) {
+    for (int column = 0; column < columns; column++) {
         long place = start + column;
         fputs(column == COLUMNS / 2 ? "  " : " ", to);
         text[column] = ' ';
@@ -33,7 +33,7 @@ static void print_rows(FILE *to, const struct span *span)
         bool same = whole && memcmp(span->bytes + before, span->bytes + before + COLUMNS, COLUMNS) == 0;
         if (!same) {
             fprintf(to, "%04lX ", (unsigned long)row);
-            print_columns(to, span, row);
+            print_columns(to, span, row, COLUMNS);
         } else if (!star) {
             fputs("*\n", to);
         }

@@ -34,18 +34,25 @@ place_lines() {
     patched "$work/five.z80" samples/museum-128k.z80 35 05
     run_tool 0 find "$work/five.z80" 'page 5'
     cat >"$work/expected" <<'LINES'
-page 5 offset 0008  at 4008 and C008 54 68 69 73 20 69 73 20  70 61 67 65 20 35 20 6F  |This is page 5 o|
+page 5 offset 0008  at 4008 and C008 70 61 67 65 20 35 20 6F  |page 5 o|
 LINES
     diff "$work/expected" "$work/out"
     run_tool 0 find "$work/five.z80" 'This is page 3'
     cat >"$work/expected" <<'LINES'
-page 3 offset 0000  not paged in                              54 68 69 73 20 69 73 20  |        This is |
+page 3 offset 0000  not paged in     54 68 69 73 20 69 73 20  |This is |
+LINES
+    diff "$work/expected" "$work/out"
+    # what ends with the memory is shown to its end
+    scripted "$work/last.z80" samples/museum-48k.z80 'text FFFD "END"'
+    run_tool 0 find "$work/last.z80" END
+    cat >"$work/expected" <<'LINES'
+page 0 offset 3FFD  at FFFD          45 4E 44                 |END     |
 LINES
     diff "$work/expected" "$work/out"
     run_tool 0 find "$work/five.z80" 20537065637472
     grep -qE '^page 2 offset 0019  at 8019 ' "$work/out"
 }
-check "a place has its page, offset, addresses and the bytes around" place_lines
+check "a place has its page, offset, addresses and the bytes from there on" place_lines
 
 overlapping() {
     scripted "$work/row.z80" samples/museum-48k.z80 'byte 9000 AA' 'byte 9001 AA' 'byte 9002 AA' 'byte 9003 AA'

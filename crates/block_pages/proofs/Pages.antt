@@ -33,9 +33,9 @@ page-owned k n p e = among (slots k) n p e
 pub on-48 : (k : Model) (n m : ℕ) (p : Page) → k ≡ K48 → n ≡ m → p ≡ pageOf K48 m → p ≡ pageOf k n
 on-48 k n m p e h q = rw (e, h) q
 
-pub others : (k : Model) (n : ℕ) → k ≡ K48 → (n ≡ 4 → ⊥) → (n ≡ 5 → ⊥) → (n ≡ 8 → ⊥) → NoPage ≡ pageOf k n
+pub not-numbered : (k : Model) (n : ℕ) → k ≡ K48 → (n ≡ 4 → ⊥) → (n ≡ 5 → ⊥) → (n ≡ 8 → ⊥) → NoPage ≡ pageOf k n
 unfolding pageOf
-others k n e a b d = rw e (simp (ne-eqb 4 n (λ q. a (sym q)), ne-eqb 5 n (λ q. b (sym q)), ne-eqb 8 n (λ q. d (sym q))))
+not-numbered k n e a b d = rw e (simp (ne-eqb 4 n (λ q. a (sym q)), ne-eqb 5 n (λ q. b (sym q)), ne-eqb 8 n (λ q. d (sym q))))
 
 -- a number outside 3 to 10
 outside : (n : ℕ) → ((i : ℕ) → 3 ≤ i → i ≤ 10 → i ≡ n → ⊥) → NoPage ≡ pageOf K128 n

@@ -1,7 +1,7 @@
 -- One block: each way out of `write_block`.
 use Prim.Native.Nat.{ℕ, _+_, _-_, _/_, _%_, _≤_, _<_, min}
 use native.Mathlib.Omega.{arith}
-use mathlib.Core.Path.{_≡_, refl, sym, ap, subst, _∙_}
+use mathlib.Core.Path.{_≡_, sym, ap, subst, _∙_}
 use mathlib.Core.Bool.{Bool, true, false}
 use mathlib.Core.List.{List, [], _∷_, _++_, append-assoc}
 use lib.ListN.{length, take, drop, set, replicate, length-drop, replicate-append-replicate}
@@ -11,13 +11,14 @@ use borrow.Author.Tests.{lt-ltb, le-ltb, ltb-true}
 use borrow.Rule.Slice.PartMut.{putMid, midOf, postOf, mid-len, same-len-mid}
 use Rattle.slices.specs.Choose.{choose}
 use Rattle.slices.specs.Put.{put}
+use Rattle.slices.proofs.Chosen.{either}
 use Rattle.slices.proofs.Puts.{length-put, take-put}
 use Rattle.packed.specs.Packed.{packed}
 use Rattle.packed.specs.Packing.{Packs}
 use Rattle.packed.specs.declared.Fit.{Fit}
 use Rattle.packed.specs.declared.Fit.the-variants.{Length, TooShort}
 use Rattle.block_write.specs.BlockFor.{blockFor}
-use Rattle.block_write.proofs.Fits.{Standing, Over, FitSays, says, packs-stands, packs-over}
+use Rattle.block_write.proofs.Fits.{InRoom, OutOfRoom, FitSays, says, packs-stands, packs-over}
 
 pub head-put : (d : List ℕ) (a b x : ℕ) → 3 ≤ length d → set (set (set d 0 a) 1 b) 2 x ≡ a ∷ b ∷ x ∷ drop 3 d
 head-put d a b x h = sets-eq (a ∷ b ∷ x ∷ []) d 0 h
@@ -40,12 +41,11 @@ block-size number p = go (ltb (length (packed p)) 16384)
     go true = omega arith
     go false = omega arith
 
-pub block-most : (number : ℕ) (p : List ℕ) → length p ≡ 16384 → length (blockFor number p) ≤ 16387
-block-most number p h = go (ltb (length (packed p)) 16384) refl (block-size number p)
-  where
-    go : (t : Bool) → ltb (length (packed p)) 16384 ≡ t → length (blockFor number p) ≡ 3 + choose t (length (packed p)) (length p) → length (blockFor number p) ≤ 16387
-    go true t b = let k : length (packed p) < 16384 = ltb-true (length (packed p)) 16384 t in omega arith
-    go false t b = omega arith
+pub block-most : (number : ℕ) (p : List ℕ) → length p ≤ 16384 → length (blockFor number p) ≤ 16387
+block-most number p h =
+    let most : choose (ltb (length (packed p)) 16384) (length (packed p)) (length p) ≤ 16384 =
+    either (λ (n : ℕ). n ≤ 16384) (ltb (length (packed p)) 16384) (length (packed p)) (length p) (λ e. omega (arith, ltb-true (length (packed p)) 16384 e)) (λ e. h) in
+    omega (arith, block-size number p)
 
 -- the ways out of write_block
 module _ (number : ℕ) (s d₀ : List ℕ) (h : length s ≡ 16384) where
@@ -60,10 +60,10 @@ module _ (number : ℕ) (s d₀ : List ℕ) (h : length s ≡ 16384) where
     told : FitSays (packed s) m r l
     told = says (packed s) m r l (subst (λ (n : ℕ). Packs (packed s) n r l) part-long w)
 
-    stands : (n : ℕ) → r ≡ Length n → Standing (packed s) m n l
+    stands : (n : ℕ) → r ≡ Length n → InRoom (packed s) m n l
     stands n q = subst (λ (x : Fit). FitSays (packed s) m x l) q told
 
-    no-fit : r ≡ TooShort → Over (packed s) m l
+    no-fit : r ≡ TooShort → OutOfRoom (packed s) m l
     no-fit q = subst (λ (x : Fit). FitSays (packed s) m x l) q told
 
     -- the output then, and from its fourth byte on

@@ -13,20 +13,20 @@ use Rattle.packed.specs.declared.Fit.{Fit}
 use Rattle.packed.specs.declared.Fit.the-variants.{Length, TooShort}
 
 -- ys has n bytes and stands in a part of m bytes, zeros after it
-pub record Standing (ys : List ℕ) (m n : ℕ) (l : List ℕ) : Type 0 where
+pub record InRoom (ys : List ℕ) (m n : ℕ) (l : List ℕ) : Type 0 where
   pub size : n ≡ length ys
   pub room : n ≤ m
   pub there : l ≡ ys ++ replicate (m - length ys) 0
   pub long : length l ≡ m
 
 -- ys has more than m bytes
-pub record Over (ys : List ℕ) (m : ℕ) (l : List ℕ) : Type 0 where
+pub record OutOfRoom (ys : List ℕ) (m : ℕ) (l : List ℕ) : Type 0 where
   pub over : m < length ys
   pub long : length l ≡ m
 
 abbrev pub FitSays : List ℕ → ℕ → Fit → List ℕ → Type 0
-FitSays ys m (Length n) l = Standing ys m n l
-FitSays ys m TooShort l = Over ys m l
+FitSays ys m (Length n) l = InRoom ys m n l
+FitSays ys m TooShort l = OutOfRoom ys m l
 
 pub says : (ys : List ℕ) (m : ℕ) (r : Fit) (l : List ℕ) → Packs ys m r l → FitSays ys m r l
 says ys m r l p = go (leb (length ys) m) refl (p .answer) (p .memory)

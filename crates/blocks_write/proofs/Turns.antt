@@ -4,7 +4,7 @@ use native.Mathlib.Numerals.{add-one}
 use native.Mathlib.Omega.{arith}
 use mathlib.Core.Path.{_≡_, refl, sym, ap, subst, _∙_}
 use mathlib.Core.List.{List, [], _∷_, _++_, append-assoc, append-nil}
-use lib.ListN.{length, take, drop, replicate, length-append, length-drop, drop-of-length-le}
+use lib.ListN.{length, take, drop, replicate, length-append, drop-of-length-le}
 use lib.Seq.{drop-cons, length-take-le, take-at, take-append-add}
 use borrow.Rule.Slice.PartMut.{putMid, midOf, postOf, mid-len, same-len-mid}
 use Rattle.packed.specs.Packing.{Packs}
@@ -13,9 +13,10 @@ use Rattle.packed.specs.declared.Fit.the-variants.{Length, TooShort}
 use Rattle.pages.specs.declared.Model.{Model}
 use Rattle.pages.specs.declared.Slot.{Slot}
 use Rattle.pages.specs.Pages.{slot, slots, pageIn}
+use Rattle.pages.proofs.Inside.{page-long}
 use Rattle.block_write.specs.BlockFor.{blockFor}
 use Rattle.block_write.proofs.Block.{block-most}
-use Rattle.block_write.proofs.Fits.{Standing, Over, FitSays, says, packs-stands, packs-over}
+use Rattle.block_write.proofs.Fits.{InRoom, OutOfRoom, FitSays, says, packs-stands, packs-over}
 use Rattle.blocks_write.specs.Laid.{laid}
 use Rattle.blocks_write.specs.Inner.{SlotAt}
 
@@ -40,9 +41,6 @@ laid-none area = refl
 -- the page that is lent
 pub page-lent : (area : List ℕ) (page : ℕ) → take (page * 16384 + 16384 - page * 16384) (drop (page * 16384) area) ≡ pageIn area page
 page-lent area page = let e : page * 16384 + 16384 - page * 16384 ≡ 16384 = omega arith in rw e
-
-page-long : (area : List ℕ) (page : ℕ) → length area ≡ 131072 → page < 8 → length (pageIn area page) ≡ 16384
-page-long area page h k = length-take-le 16384 (drop (page * 16384) area) (simp length-drop (omega arith))
 
 module _ (model : Model) (area d₀ d : List ℕ) (i at : ℕ) (g : LaidSoFar model area d₀ d i at) where
   -- the next block
@@ -76,11 +74,11 @@ module _ (model : Model) (area d₀ d : List ℕ) (i at : ℕ) (g : LaidSoFar mo
     long-then y = same-len-mid at (at + room - at) d l (y ∙ sym part-long) ∙ g .long
 
     pub going-room : (k : ℕ) → r ≡ Length k → at + k ≤ length d
-    going-room k q = let f : Standing b room k l = subst (λ (y : Fit). FitSays b room y l) q told in omega (arith, f .room, g .reach)
+    going-room k q = let f : InRoom b room k l = subst (λ (y : Fit). FitSays b room y l) q told in omega (arith, f .room, g .reach)
 
     pub going-more : (k : ℕ) → r ≡ Length k → LaidSoFar model area d₀ then (i + 1) (at + k)
     going-more k q =
-        let f : Standing b room k l = subst (λ (y : Fit). FitSays b room y l) q told in
+        let f : InRoom b room k l = subst (λ (y : Fit). FitSays b room y l) q told in
         let t : length (take at d) ≡ at = length-take-le at d (g .reach) in
         let rest : List ℕ = replicate (room - length b) 0 in
         let past = postOf at (at + room - at) d in
@@ -102,14 +100,14 @@ module _ (model : Model) (area d₀ d : List ℕ) (i at : ℕ) (g : LaidSoFar mo
 
     pub going-over : r ≡ TooShort → (d′ : List ℕ) → d′ ≡ replicate (length then) 0 → Packs (laid (slots model) area) (length d₀) TooShort d′
     going-over q d′ z =
-        let f : Over b room l = subst (λ (y : Fit). FitSays b room y l) q told in
+        let f : OutOfRoom b room l = subst (λ (y : Fit). FitSays b room y l) q told in
         let t = laid (drop (i + 1) (slots model)) area in
         let a1 = ap length (g .same) in
         let a2 = length-append (take at d) (laid (drop i (slots model)) area) in
         let a4 = ap length (ahead x s (omega arith)) in
         let a5 = length-append b t in
         let a6 = length-take-le at d (g .reach) in
-        let most = block-most (x .number) (pageIn area (x .page)) (page-long area (x .page) a (s .page-small)) in
+        let most = block-most (x .number) (pageIn area (x .page)) (omega (arith, page-long area (x .page) a (s .page-small))) in
         packs-over (laid (slots model) area) (length d₀) d′ (omega (arith, f .over, g .long, g .reach)) (z ∙ ap (λ (k : ℕ). replicate k 0) (long-then (f .long)))
 
   pub going-end : (n : ℕ) → n ≡ length (slots model) → n ≤ i → (d′ : List ℕ) → d′ ≡ take at d ++ replicate (length d - at) 0

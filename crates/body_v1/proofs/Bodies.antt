@@ -22,10 +22,10 @@ use Rattle.blocks.specs.Blocks.{ReadsBody}
 use Rattle.block_read.proofs.Answers.{good-is, malformed-is, wrong-is}
 
 -- what stands from n on, as a part
-abbrev rest : List ℕ → ℕ → List ℕ
-rest s n = take (length s - n) (drop n s)
+abbrev bodyFrom : List ℕ → ℕ → List ℕ
+bodyFrom s n = take (length s - n) (drop n s)
 
-to-end : (s : List ℕ) (n : ℕ) → rest s n ≡ drop n s
+to-end : (s : List ℕ) (n : ℕ) → bodyFrom s n ≡ drop n s
 to-end s n = take-all (length s - n) (drop n s) (omega (arith, length-drop n s))
 
 abbrev marker : List ℕ
@@ -41,7 +41,7 @@ marked-short s l =
     (λ h. let e = ap length h in absurd (omega (arith, length-drop (length s - 4) s)))
 
 pub marked-is : (s : List ℕ) (r : Bool)
-    → (r ≡ true → rest s (length s - 4) ≡ marker) × (rest s (length s - 4) ≡ marker → r ≡ true)
+    → (r ≡ true → bodyFrom s (length s - 4) ≡ marker) × (bodyFrom s (length s - 4) ≡ marker → r ≡ true)
     → r ≡ marked s
 marked-is s r p =
     let e = to-end s (length s - 4) in
@@ -68,22 +68,22 @@ module _ (u : Found) (n : ℕ) (r : Unpacked) (body before after : List ℕ) (h 
   body-wrong e q = let w = wrong-is u n 49152 r body h l e in rw (w .1 .0, w .1 .1) (refl, q)
 
 module _ (packed : Bool) (file : List ℕ) (from : ℕ) (area after : List ℕ) where
-  pub read-marked : (m : Bool) (r : Answer) → packed ≡ true → m ≡ marked (rest file from) → m ≡ true
-      → ReadsBody (spreadFrom (unpacked (take (length (rest file from) - 4 - 0) (drop 0 (rest file from)))) area) r after → ReadsBody (bodyInto packed area (drop from file)) r after
+  pub read-marked : (m : Bool) (r : Answer) → packed ≡ true → m ≡ marked (bodyFrom file from) → m ≡ true
+      → ReadsBody (spreadFrom (unpacked (take (length (bodyFrom file from) - 4 - 0) (drop 0 (bodyFrom file from)))) area) r after → ReadsBody (bodyInto packed area (drop from file)) r after
   unfolding bodyInto
   read-marked m r e a t h =
-      let z : length (rest file from) - 4 - 0 ≡ length (rest file from) - 4 = omega arith in
+      let z : length (bodyFrom file from) - 4 - 0 ≡ length (bodyFrom file from) - 4 = omega arith in
       rw (e, ← to-end file from, ← a, t) (rw z at h)
 
-  pub read-unmarked : (m : Bool) → packed ≡ true → m ≡ marked (rest file from) → m ≡ false → after ≡ blank 131072
+  pub read-unmarked : (m : Bool) → packed ≡ true → m ≡ marked (bodyFrom file from) → m ≡ false → after ≡ blank 131072
       → ReadsBody (bodyInto packed area (drop from file)) (Refused EndMarker) after
   unfolding bodyInto
   read-unmarked m e a t q = rw (e, ← to-end file from, ← a, t) (refl, q)
 
-  pub read-plain : packed ≡ false → length (rest file from) ≡ 49152 → after ≡ spread area (rest file from) → ReadsBody (bodyInto packed area (drop from file)) Accepted after
+  pub read-plain : packed ≡ false → length (bodyFrom file from) ≡ 49152 → after ≡ spread area (bodyFrom file from) → ReadsBody (bodyInto packed area (drop from file)) Accepted after
   unfolding bodyInto
   read-plain e l q = rw (e, ← to-end file from, eq-eqb _ _ l) (refl, q)
 
-  pub read-wrong : packed ≡ false → (length (rest file from) ≡ 49152 → ⊥) → after ≡ blank 131072 → ReadsBody (bodyInto packed area (drop from file)) (Refused UnpackedLength) after
+  pub read-wrong : packed ≡ false → (length (bodyFrom file from) ≡ 49152 → ⊥) → after ≡ blank 131072 → ReadsBody (bodyInto packed area (drop from file)) (Refused UnpackedLength) after
   unfolding bodyInto
   read-wrong e l q = rw (e, ← to-end file from, ne-eqb _ _ l) (refl, q)

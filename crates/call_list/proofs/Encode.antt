@@ -27,14 +27,14 @@ calls-next : (w x y z : ℕ) (b : List ℕ) (i k : ℕ) → callsFrom (w ∷ x �
 calls-next w x y z b i zero = refl
 calls-next w x y z b i (suc k) = rw (callAt-next w x y z b i, calls-next w x y z b (suc i) k)
 
-two-bytes : (v : ℕ) → v % 256 + 256 * (v / 256) ≡ v
-two-bytes v = omega arith
+word-again : (v : ℕ) → v % 256 + 256 * (v / 256) ≡ v
+word-again v = omega arith
 
 every-list : (cs : List Call) → callsFrom (encode cs) 0 (length cs) ≡ cs
 unfolding callAt
 every-list [] = refl
-every-list (Byte a v ∷ cs) = simp two-bytes (ap (λ (l : List Call). Byte a v ∷ l) (calls-next _ _ _ _ (encode cs) 0 (length cs) ∙ every-list cs))
-every-list (Pair i v ∷ cs) = simp two-bytes (ap (λ (l : List Call). Pair i v ∷ l) (calls-next _ _ _ _ (encode cs) 0 (length cs) ∙ every-list cs))
+every-list (Byte a v ∷ cs) = simp word-again (ap (λ (l : List Call). Byte a v ∷ l) (calls-next _ _ _ _ (encode cs) 0 (length cs) ∙ every-list cs))
+every-list (Pair i v ∷ cs) = simp word-again (ap (λ (l : List Call). Pair i v ∷ l) (calls-next _ _ _ _ (encode cs) 0 (length cs) ∙ every-list cs))
 every-list (Out v ∷ cs) = ap (λ (l : List Call). Out v ∷ l) (calls-next _ _ _ _ (encode cs) 0 (length cs) ∙ every-list cs)
 every-list (Undo ∷ cs) = ap (λ (l : List Call). Undo ∷ l) (calls-next _ _ _ _ (encode cs) 0 (length cs) ∙ every-list cs)
 every-list (Redo ∷ cs) = ap (λ (l : List Call). Redo ∷ l) (calls-next _ _ _ _ (encode cs) 0 (length cs) ∙ every-list cs)

@@ -32,9 +32,9 @@ w0 = record { machine = sample; memory = zero-area }
 log : List ℕ
 log = replicate 44 0
 
-fit : ValidStart w0
+w0-valid : ValidStart w0
 unfolding w0 zero-area
-fit =
+w0-valid =
     record {
       valid = sample-valid;
       area = length-replicate {A = ℕ} 131072 0;
@@ -47,8 +47,8 @@ fit =
 one-out : List Call
 one-out = Out 1 ∷ []
 
-four : List Call
-four = Out 1 ∷ Out 2 ∷ Undo ∷ Undo ∷ []
+two-undone : List Call
+two-undone = Out 1 ∷ Out 2 ∷ Undo ∷ Undo ∷ []
 
 again : List Call
 again = Out 1 ∷ Undo ∷ Redo ∷ []
@@ -57,9 +57,9 @@ wide-one : TypedCalls one-out
 unfolding one-out
 wide-one = (omega arith, tt)
 
-wide-four : TypedCalls four
-unfolding four
-wide-four = (omega arith, (omega arith, (tt, (tt, tt))))
+wide-two-undone : TypedCalls two-undone
+unfolding two-undone
+wide-two-undone = (omega arith, (omega arith, (tt, (tt, tt))))
 
 wide-again : TypedCalls again
 unfolding again
@@ -70,30 +70,30 @@ wide-again = (omega arith, (tt, (tt, tt)))
 -- after OUT 1 none stands, where one does
 pub refuted-refuses : ClaimOf alwaysRefuses → ⊥
 unfolding alwaysRefuses one-out w0 sample log capacity correctionAnswer
-refuted-refuses h = let e : _≡_ {A = ℕ} 0 1 = h w0 log fit one-out wide-one .standing in omega arith
+refuted-refuses h = let e : _≡_ {A = ℕ} 0 1 = h w0 log w0-valid one-out wide-one .standing in omega arith
 
 -- after OUT 1 the last OUT is 0, where it is 1
 pub refuted-alters-nothing : ClaimOf altersNothing → ⊥
 unfolding altersNothing one-out w0 sample log capacity correctionAnswer make withOut
 refuted-alters-nothing h =
-    let e : _≡_ {A = ℕ} 0 1 = ap (λ (w : State). w .machine .out7ffd) (h w0 log fit one-out wide-one .state) in
+    let e : _≡_ {A = ℕ} 0 1 = ap (λ (w : State). w .machine .out7ffd) (h w0 log w0-valid one-out wide-one .state) in
     omega arith
 
 -- after OUT 1, OUT 2, undo, undo the last OUT is 1, where it is 0
 pub refuted-undoes-once : ClaimOf undoesOnce → ⊥
-unfolding undoesOnce four w0 sample zero-area log journalCall corrected undoOf soundness validOf capacity correctionAnswer make withOut stepFor putStep put stepAt intact present placed
+unfolding undoesOnce two-undone w0 sample zero-area log journalCall corrected undoOf soundness validOf capacity correctionAnswer make withOut stepFor putStep put stepAt intact present placed
 refuted-undoes-once h =
-    let e : _≡_ {A = ℕ} 1 0 = ap (λ (w : State). w .machine .out7ffd) (h w0 log fit four wide-four .state) in
+    let e : _≡_ {A = ℕ} 1 0 = ap (λ (w : State). w .machine .out7ffd) (h w0 log w0-valid two-undone wide-two-undone .state) in
     omega arith
 
 -- after OUT 1 seven stand, where one does
 pub refuted-counts : ClaimOf inventsCounts → ⊥
 unfolding inventsCounts one-out w0 sample log capacity correctionAnswer
-refuted-counts h = let e : _≡_ {A = ℕ} 7 1 = h w0 log fit one-out wide-one .standing in omega arith
+refuted-counts h = let e : _≡_ {A = ℕ} 7 1 = h w0 log w0-valid one-out wide-one .standing in omega arith
 
 -- after OUT 1, undo, redo the last OUT is 0, where it is 1
 pub refuted-redo : ClaimOf redoesNothing → ⊥
 unfolding redoesNothing again w0 sample zero-area log journalCall corrected undoOf soundness validOf capacity correctionAnswer make withOut stepFor putStep put stepAt intact present placed
 refuted-redo h =
-    let e : _≡_ {A = ℕ} 0 1 = ap (λ (w : State). w .machine .out7ffd) (h w0 log fit again wide-again .state) in
+    let e : _≡_ {A = ℕ} 0 1 = ap (λ (w : State). w .machine .out7ffd) (h w0 log w0-valid again wide-again .state) in
     omega arith

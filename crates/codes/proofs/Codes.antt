@@ -14,35 +14,35 @@ use Rattle.slices.proofs.Puts.{length-put}
 use Rattle.flags.specs.Weight.{weight}
 use Rattle.flags.specs.Places.{Flagged, Seen, Ahead}
 use Rattle.flags.proofs.Places.{seen-none, seen-flags, seen-join, seen-clear, seen-first, some-set}
-use Rattle.packed.specs.Packed.{pair, before, unpacked}
+use Rattle.packed.specs.Packed.{escape, before, unpacked}
 use Rattle.packed.specs.Packed.Steps.{front-plain}
-use Rattle.codes.specs.Inner.{pairAt, reachOf, Copied16, Looked}
+use Rattle.codes.specs.Inner.{escapeAt, reachOf, Copied16, Looked}
 use Rattle.stores.proofs.Written.{at-block, block-long, put-none, put-more}
 use Rattle.packed.proofs.Frame.{Verbatim, verbatim}
-use Rattle.codes.proofs.Pair.{pair-there}
+use Rattle.codes.proofs.Escape.{escape-there}
 
 pub copied-16 : (s : List ℕ) (i : ℕ) (d : List ℕ) (o : ℕ) (b n d′ : List ℕ) (c : List Bool) (m : ℕ) → i + 17 ≤ length s → o + 16 ≤ length d → b ≡ take 16 (drop i s)
-    → n ≡ take 16 (drop (i + 1) s) → d′ ≡ put d o b → Flagged (λ j. pair (getD b j 0) (getD n j 0)) c 16 → m ≡ weight c → Copied16 s i d o m d′
-copied-16 s i d o b n d′ c m hs hd eb en ed g em = record { seen = seen-flags (pairAt s) _ i c m g em at; stored = ed ∙ ap (put d o) eb }
+    → n ≡ take 16 (drop (i + 1) s) → d′ ≡ put d o b → Flagged (λ j. escape (getD b j 0) (getD n j 0)) c 16 → m ≡ weight c → Copied16 s i d o m d′
+copied-16 s i d o b n d′ c m hs hd eb en ed g em = record { seen = seen-flags (escapeAt s) _ i c m g em at; stored = ed ∙ ap (put d o) eb }
   where
-    at : (j : ℕ) → j < 16 → pair (getD b j 0) (getD n j 0) ≡ pairAt s (i + j)
-    at j h = (λ z. pair (at-block s b i j eb h z) (at-block s n (i + 1) j en h z)) ∙ ap (λ (x : ℕ). pair (getD s (i + j) 0) (getD s x 0)) (omega arith)
+    at : (j : ℕ) → j < 16 → escape (getD b j 0) (getD n j 0) ≡ escapeAt s (i + j)
+    at j h = (λ z. escape (at-block s b i j eb h z) (at-block s n (i + 1) j en h z)) ∙ ap (λ (x : ℕ). escape (getD s (i + j) 0) (getD s x 0)) (omega arith)
 
 -- bytes that are no ED ED stand for themselves
-plain-bytes : (s : List ℕ) (i k : ℕ) → i + k ≤ length s → ((j : ℕ) → j < k → pairAt s (i + j) ≡ false) → Verbatim unpacked s i k
+plain-bytes : (s : List ℕ) (i k : ℕ) → i + k ≤ length s → ((j : ℕ) → j < k → escapeAt s (i + j) ≡ false) → Verbatim unpacked s i k
 plain-bytes s i k h c =
-    verbatim unpacked (λ (l : List ℕ). pair (getD l 0 0) (getD l 1 0) ≡ false) (λ x xs. front-plain (x ∷ xs) (omega arith)) s i k h
-    (λ j h. pair-there s (i + j) _ (sym (c j h)))
+    verbatim unpacked (λ (l : List ℕ). escape (getD l 0 0) (getD l 1 0) ≡ false) (λ x xs. front-plain (x ∷ xs) (omega arith)) s i k h
+    (λ j h. escape-there s (i + j) _ (sym (c j h)))
 
 -- 64 bytes are looked at, q times 16 of them done
 pub record Looking (s : List ℕ) (i : ℕ) (d₀ : List ℕ) (o : ℕ) (d : List ℕ) (m q : ℕ) : Type 0 where
   pub few : q ≤ 4
   pub long : length d ≡ length d₀
-  pub seen : Seen (pairAt s) i (16 * q) m
+  pub seen : Seen (escapeAt s) i (16 * q) m
   pub stored : d ≡ put d₀ o (take (16 * q) (drop i s))
 
 pub looking-none : (s : List ℕ) (i : ℕ) (d : List ℕ) (o : ℕ) → Looking s i d o d 0 0
-looking-none s i d o = record { few = omega arith; long = refl; seen = seen-none (pairAt s) i; stored = sym (put-none d o) }
+looking-none s i d o = record { few = omega arith; long = refl; seen = seen-none (escapeAt s) i; stored = sym (put-none d o) }
 
 module _ (s : List ℕ) (i : ℕ) (d₀ : List ℕ) (o : ℕ) (d : List ℕ) (m q : ℕ) (g : Looking s i d₀ o d m q) (hs : i + 65 ≤ length s) (hd : o + 64 ≤ length d₀) where
   pub looking-more : (d′ : List ℕ) (r : ℕ) → q < 4 → Copied16 s (i + 16 * q) d (o + 16 * q) r d′
@@ -53,7 +53,7 @@ module _ (s : List ℕ) (i : ℕ) (d₀ : List ℕ) (o : ℕ) (d : List ℕ) (m 
       record {
         few = omega arith;
         long = ap length (c .stored) ∙ length-put d _ (o + 16 * q) (omega (arith, g .long)) ∙ g .long;
-        seen = subst (λ (n : ℕ). Seen (pairAt s) i n (bitOr m ((r * 2 ^ (16 * q)) % 18446744073709551616))) e (seen-join (pairAt s) i (16 * q) m r (g .seen) (c .seen) (omega arith));
+        seen = subst (λ (n : ℕ). Seen (escapeAt s) i n (bitOr m ((r * 2 ^ (16 * q)) % 18446744073709551616))) e (seen-join (escapeAt s) i (16 * q) m r (g .seen) (c .seen) (omega arith));
         stored = put-more s i d₀ d d′ o (16 * q) 16 (omega arith) (omega arith) (g .stored) (c .stored) ∙ ap (λ (n : ℕ). put d₀ o (take n (drop i s))) e;
       }
 
@@ -63,7 +63,7 @@ module _ (s : List ℕ) (i : ℕ) (d₀ : List ℕ) (o : ℕ) (d : List ℕ) (m 
       let all : reachOf before ≡ 64 = rw (le-ltb (trailingZeros 64 before) 16 (omega arith)) in
       record {
         kept = λ l. (let x : ⊥ = omega arith in absurd x);
-        anew = λ _. subst (λ (n : ℕ). Seen (pairAt s) i n m) n (g .seen);
+        anew = λ _. subst (λ (n : ℕ). Seen (escapeAt s) i n m) n (g .seen);
         stored = g .stored ∙ ap (λ (n : ℕ). put d₀ o (take n (drop i s))) (n ∙ sym all);
       }
 
@@ -78,23 +78,23 @@ looked-near s i d o b d′ m k e h eb ed =
 
 -- m flags ED ED from i on: the bytes before the first one stand for themselves, or 64 where it flags none
 pub record NextCode (s : List ℕ) (i seen m : ℕ) : Type 0 where
-  pub ahead : Ahead (pairAt s) i m
+  pub ahead : Ahead (escapeAt s) i m
   pub part : Verbatim unpacked s i (trailingZeros 64 m)
-  pub code : trailingZeros 64 m < 64 → true ≡ pairAt s (i + trailingZeros 64 m)
+  pub code : trailingZeros 64 m < 64 → true ≡ escapeAt s (i + trailingZeros 64 m)
   pub reach : trailingZeros 64 m ≤ reachOf seen
 
-module _ (s : List ℕ) (i : ℕ) (d₀ : List ℕ) (o seen m : ℕ) (d : List ℕ) (hs : i + 65 ≤ length s) (a : Ahead (pairAt s) i seen) (l : Looked s i d₀ o seen m d) where
+module _ (s : List ℕ) (i : ℕ) (d₀ : List ℕ) (o seen m : ℕ) (d : List ℕ) (hs : i + 65 ≤ length s) (a : Ahead (escapeAt s) i seen) (l : Looked s i d₀ o seen m d) where
   near-code : trailingZeros 64 seen < 16 → NextCode s i seen m
   near-code h =
       let e = l .kept h in
       let near : reachOf seen ≡ 16 = rw (lt-ltb (trailingZeros 64 seen) 16 h) in
-      let f = seen-first (pairAt s) i (a .places) seen (a .seen) (a .most) (some-set seen (omega arith)) in
+      let f = seen-first (escapeAt s) i (a .places) seen (a .seen) (a .most) (some-set seen (omega arith)) in
       rw e (record { ahead = a; part = plain-bytes s i _ (omega arith) (f .before); code = λ _. sym (f .here); reach = omega (arith, near) })
 
   far-code : 16 ≤ trailingZeros 64 seen → NextCode s i seen m
   far-code h = go (eqb m 0) refl
     where
-      new : Seen (pairAt s) i 64 m
+      new : Seen (escapeAt s) i 64 m
       new = l .anew h
 
       all : reachOf seen ≡ 64
@@ -106,12 +106,12 @@ module _ (s : List ℕ) (i : ℕ) (d₀ : List ℕ) (o seen m : ℕ) (d : List �
           let k : trailingZeros 64 m ≡ 64 = ap (trailingZeros 64) z ∙ trailing-of-zero 64 in
           record {
             ahead = record { places = 64; most = omega arith; seen = new };
-            part = plain-bytes s i _ (omega arith) (λ j l. seen-clear (pairAt s) i 64 m new z j (omega arith));
+            part = plain-bytes s i _ (omega arith) (λ j l. seen-clear (escapeAt s) i 64 m new z j (omega arith));
             code = λ l. (let x : ⊥ = omega arith in absurd x);
             reach = omega (arith, all);
           }
       go false e =
-          let f = seen-first (pairAt s) i 64 m new (omega arith) (eqb-false m 0 e) in
+          let f = seen-first (escapeAt s) i 64 m new (omega arith) (eqb-false m 0 e) in
           record {
             ahead = record { places = 64; most = omega arith; seen = new };
             part = plain-bytes s i _ (omega (arith, f .inside)) (f .before);

@@ -1,2 +1,2 @@
-pub mod Pair
+pub mod Escape
 pub mod Codes

@@ -3,13 +3,13 @@ ghost use Prim.Native.Nat.{_+_, _≤_, _<_};
 ghost use mathlib.Core.Path.{_≡_};
 ghost use lib.ListN.{length, getD};
 ghost use Rattle.flags.specs.Places.{Flagged, Ahead};
-ghost use Rattle.packed.specs.Packed.{pair};
-ghost use Rattle.codes.specs.Inner.{pairAt, Looked, Copied16};
+ghost use Rattle.packed.specs.Packed.{escape};
+ghost use Rattle.codes.specs.Inner.{escapeAt, Looked, Copied16};
 
 // Flags for ED ED from i on: `seen`, while the next is near, or 64 new ones. The bytes of src before the next ED ED are
 // stored into dst from o on.
 pub fn look(src: &[u8], i: usize, dst: &mut [u8], o: usize, seen: u64) -> u64
-    requires { ⌜ (i + 65 ≤ length (now src)) × ((o + 64 ≤ length (now dst)) × Ahead (pairAt (now src)) i seen) ⌝ }
+    requires { ⌜ (i + 65 ≤ length (now src)) × ((o + 64 ≤ length (now dst)) × Ahead (escapeAt (now src)) i seen) ⌝ }
     ensures { λ r. ⌜ Looked (now (src .entry)) i (now (dst .entry)) o seen r (now (dst .exit)) ⌝ }
 {
     if flags::first(seen) < 16 {
@@ -34,32 +34,32 @@ fn codes16(src: &[u8], i: usize, dst: &mut [u8], o: usize) -> u64
     let block = slices::part16(src, i);
     let next = slices::part16(src, i + 1);
     slices::put16(dst, o, &block);
-    flags::mask(pairs(block, next))
+    flags::mask(escapes(block, next))
 }
 
 // Where ED ED stands in a block, given the block one byte on.
-fn pairs(block: [u8; 16], next: [u8; 16]) -> [bool; 16]
-    ensures { λ r. ⌜ Flagged (λ j. pair (getD block j 0) (getD next j 0)) r 16 ⌝ }
+fn escapes(block: [u8; 16], next: [u8; 16]) -> [bool; 16]
+    ensures { λ r. ⌜ Flagged (λ j. escape (getD block j 0) (getD next j 0)) r 16 ⌝ }
 {
     let mut c = [false; 16];
     let mut k: usize = 0;
     while k < 16 {
-        c[k] = is_pair(block[k], next[k]);
+        c[k] = is_escape(block[k], next[k]);
         k += 1;
     }
     c
 }
 
-fn is_pair(a: u8, b: u8) -> bool
-    ensures { λ r. ⌜ r ≡ pair a b ⌝ }
+fn is_escape(a: u8, b: u8) -> bool
+    ensures { λ r. ⌜ r ≡ escape a b ⌝ }
 {
     (a == 237) & (b == 237)
 }
 
 // Whether ED ED stands at i.
-pub fn pair_at(src: &[u8], i: usize) -> bool
+pub fn escape_at(src: &[u8], i: usize) -> bool
     requires { ⌜ i < length (now src) ⌝ }
-    ensures { λ r. ⌜ r ≡ pairAt (now (src .entry)) i ⌝ }
+    ensures { λ r. ⌜ r ≡ escapeAt (now (src .entry)) i ⌝ }
 {
     if src[i] == 237 {
         if i + 1 < src.len() {

@@ -27,14 +27,14 @@ word-back : (n : ℕ) → n < 65536 → n % 256 + 256 * (n / 256 % 256) ≡ n
 word-back n h = omega arith
 
 -- byte 12 as it is written, with R's bit 7 and the border, is never 255
-byte12 : (r b : ℕ) → r < 256 → choose (eqb (r / 128 + 2 * (b % 8)) 255) 1 (r / 128 + 2 * (b % 8)) ≡ r / 128 + 2 * (b % 8)
-byte12 r b h = rw (ne-eqb (r / 128 + 2 * (b % 8)) 255 (λ e. omega arith))
+byte12-kept : (r b : ℕ) → r < 256 → choose (eqb (r / 128 + 2 * (b % 8)) 255) 1 (r / 128 + 2 * (b % 8)) ≡ r / 128 + 2 * (b % 8)
+byte12-kept r b h = rw (ne-eqb (r / 128 + 2 * (b % 8)) 255 (λ e. omega arith))
 
 r-back : (r b : ℕ) → r < 256 → r % 128 % 128 + 128 * (choose (eqb (r / 128 + 2 * (b % 8)) 255) 1 (r / 128 + 2 * (b % 8)) % 2) ≡ r
-r-back r b h = rw (byte12 r b h) (omega arith)
+r-back r b h = rw (byte12-kept r b h) (omega arith)
 
 border-back : (r b : ℕ) → r < 256 → b < 8 → choose (eqb (r / 128 + 2 * (b % 8)) 255) 1 (r / 128 + 2 * (b % 8)) / 2 % 8 ≡ b
-border-back r b h k = rw (byte12 r b h) (omega arith)
+border-back r b h k = rw (byte12-kept r b h) (omega arith)
 
 -- the parts of byte 29
 module _ (im i d v j : ℕ) where

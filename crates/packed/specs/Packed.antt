@@ -13,9 +13,9 @@ use Rattle.slices.specs.Choose.{choose, both}
 abbrev pub ED : ℕ
 ED = 0xED
 
--- whether both bytes are ED
-abbrev pub pair : ℕ → ℕ → Bool
-pair a b = both (eqb a ED) (eqb b ED)
+-- whether two bytes are ED ED, with which a code begins
+abbrev pub escape : ℕ → ℕ → Bool
+escape a b = both (eqb a ED) (eqb b ED)
 
 -- what packed data stand for
 pub data Found : Type 0 where
@@ -36,9 +36,9 @@ run n y rest = choose (eqb n 0) malformed (before (replicate n y) rest)
 pub unpacked : List ℕ → Found
 unpacked [] = bytes []
 unpacked (a ∷ []) = bytes (a ∷ [])
-unpacked (a ∷ b ∷ []) = choose (pair a b) malformed (before (a ∷ []) (unpacked (b ∷ [])))
-unpacked (a ∷ b ∷ n ∷ []) = choose (pair a b) malformed (before (a ∷ []) (unpacked (b ∷ n ∷ [])))
-unpacked (a ∷ b ∷ n ∷ y ∷ rest) = choose (pair a b) (run n y (unpacked rest)) (before (a ∷ []) (unpacked (b ∷ n ∷ y ∷ rest)))
+unpacked (a ∷ b ∷ []) = choose (escape a b) malformed (before (a ∷ []) (unpacked (b ∷ [])))
+unpacked (a ∷ b ∷ n ∷ []) = choose (escape a b) malformed (before (a ∷ []) (unpacked (b ∷ n ∷ [])))
+unpacked (a ∷ b ∷ n ∷ y ∷ rest) = choose (escape a b) (run n y (unpacked rest)) (before (a ∷ []) (unpacked (b ∷ n ∷ y ∷ rest)))
 
 -- how many bytes at the front of a list are x
 abbrev pub front : ℕ → List ℕ → ℕ

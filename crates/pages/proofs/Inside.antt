@@ -1,7 +1,10 @@
--- A place of the RAM is inside a page that the machine owns.
-use Prim.Native.Nat.{ℕ, _-_, _%_, _<_}
+-- A place of the RAM is inside a page that the machine owns; a page is whole.
+use Prim.Native.Nat.{ℕ, _-_, _*_, _%_, _<_}
 use mathlib.Core.Path.{_≡_, refl, sym, subst}
 use mathlib.Core.Bool.{Bool, true, false}
+use mathlib.Core.List.{List}
+use lib.ListN.{length, drop, length-drop}
+use lib.Seq.{length-take-le}
 use native.Mathlib.Omega.{arith}
 use borrow.Author.Tests.{ltb-true}
 use lib.Dec.{ltb}
@@ -9,8 +12,11 @@ use Rattle.slices.specs.Choose.{choose}
 use Rattle.pages.specs.declared.Model.{Model}
 use Rattle.pages.specs.declared.Model.the-variants.{K48, K128}
 use Rattle.pages.specs.declared.Place.the-variants.{Rom, Ram}
-use Rattle.pages.specs.Pages.{owned, topPage, placeOf}
+use Rattle.pages.specs.Pages.{owned, topPage, placeOf, pageIn}
 use Rattle.pages.proofs.Places.{owned-all}
+
+pub page-long : (area : List ℕ) (page : ℕ) → length area ≡ 131072 → page < 8 → length (pageIn area page) ≡ 16384
+page-long area page h k = length-take-le 16384 (drop (page * 16384) area) (simp length-drop (omega arith))
 
 pub record Inside (model : Model) (page offset : ℕ) : Type 0 where
   pub mine : owned model page ≡ true

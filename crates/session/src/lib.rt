@@ -2,7 +2,7 @@
 use numbers::Answer;
 use numbers::Refusal;
 use spectrum::Machine;
-ghost use Prim.Native.Nat.{_+_, _-_, _≤_, _<_};
+ghost use Prim.Native.Nat.{_+_, _-_, _<_};
 ghost use mathlib.Core.Path.{_≡_};
 ghost use Rattle.numbers.specs.declared.Answer.the-variants.{Accepted, Refused};
 

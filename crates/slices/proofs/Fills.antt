@@ -3,10 +3,10 @@ use Prim.Native.Nat.{ℕ, _+_, _-_, _≤_, _<_}
 use native.Mathlib.Numerals.{add-one}
 use native.Mathlib.Omega.{arith}
 use mathlib.Core.Path.{_≡_, refl, sym, ap, _∙_}
-use mathlib.Core.List.{List, [], _∷_, _++_, append-assoc, append-nil}
-use lib.ListN.{length, take, set, replicate, length-append, length-set, length-replicate, replicate-append-replicate}
-use lib.Seq.{take-suc-set, take-all, take-at, length-take-le, drop-length}
-use borrow.Rule.Slice.PartMut.{putMid, midOf, postOf, mid-len, same-len-mid, post-is}
+use mathlib.Core.List.{List, [], _∷_, _++_, append-nil}
+use lib.ListN.{length, take, set, replicate, length-set, replicate-append-replicate}
+use lib.Seq.{take-suc-set, take-all, drop-length}
+use borrow.Rule.Slice.PartMut.{putMid, midOf, mid-len, post-is}
 
 -- the first i bytes of d, which was d₀, are v
 pub record Filled (d₀ : List ℕ) (v : ℕ) (d : List ℕ) (i : ℕ) : Type 0 where
@@ -29,19 +29,6 @@ pub filled-all : (d₀ : List ℕ) (v : ℕ) (d : List ℕ) (i : ℕ) → Filled
 filled-all d₀ v d i g h =
     let q : i ≡ length d₀ = omega (arith, g .reach, g .long) in
     sym (take-all i d h) ∙ g .done ∙ ap (λ (n : ℕ). replicate n v) q
-
--- the part from o on, n long, filled with y
-pub put-run : (d l : List ℕ) (o n y : ℕ) → o + n ≤ length d → l ≡ replicate (length (midOf o (o + n - o) d)) y
-    → (length (putMid o (o + n - o) d l) ≡ length d) × (take (o + n) (putMid o (o + n - o) d l) ≡ take o d ++ replicate n y)
-put-run d l o n y h e =
-    let k : length (midOf o (o + n - o) d) ≡ n = mid-len o (o + n) d h ∙ omega arith in
-    let q : l ≡ replicate n y = e ∙ ap (λ (m : ℕ). replicate m y) k in
-    let a : length (take o d ++ l) ≡ o + n = length-append (take o d) l ∙ (rw (q, length-replicate n y, length-take-le o d (omega arith)) refl) in (
-      same-len-mid o (o + n - o) d l (ap length q ∙ length-replicate n y ∙ sym k),
-      (ap (take (o + n)) (sym (append-assoc (take o d) l (postOf o (o + n - o) d)))
-          ∙ take-at (take o d ++ l) (postOf o (o + n - o) d) (o + n) a
-          ∙ ap (λ (z : List ℕ). take o d ++ z) q),
-    )
 
 -- the part from n to the end, filled with zeros
 pub cleared : (d l : List ℕ) (n : ℕ) → n < length d → l ≡ replicate (length (midOf n (length d - n) d)) 0 → putMid n (length d - n) d l ≡ take n d ++ replicate (length d - n) 0

@@ -7,12 +7,12 @@ ghost use Rattle.file_bytes.specs.Files.{readOfBytes, ReadsBytes, writeOfBytes,
 ghost use Rattle.journal_bytes.specs.Calls.{buffers, snapCall, CallLeaves, LogStarts};
 ghost use Rattle.view_bytes.specs.Views.{Shows, showOf};
 ghost use Rattle.machine_bytes.specs.Looks.{modelOf, TellsModel, pairOf, TellsPair, addressOf, TellsPlace};
-ghost use Rattle.version_number.specs.Version.{version};
+ghost use Rattle.version_number.specs.Version.{libraryVersion};
 
 // 10000 * major + 100 * minor + patch.
 #[no_mangle]
 pub extern "C" fn snap_version() -> u32
-    ensures { λ r. ⌜ r ≡ version ⌝ }
+    ensures { λ r. ⌜ r ≡ libraryVersion ⌝ }
 {
     version_number::current()
 }

@@ -1,6 +1,5 @@
 -- Steps of the log and what they point at, at each return of the code.
-use Prim.Native.Nat.{ℕ, _+_, _*_, _/_, _%_, _≤_, _<_}
-use native.Mathlib.Omega.{arith}
+use Prim.Native.Nat.{ℕ, _+_, _*_, _%_, _≤_}
 use mathlib.Core.Path.{_≡_, sym, ap, _∙_}
 use mathlib.Core.Bool.{Bool}
 use mathlib.Core.List.{List}
@@ -14,9 +13,7 @@ use Rattle.pages.specs.declared.Model.{Model}
 use Rattle.spectrum.specs.Machine.{withPair, withOut}
 use Rattle.pages.specs.Pages.{owned}
 use Rattle.log_steps.specs.declared.Step.{Step}
-use Rattle.spectrum.specs.State.{State}
 use Rattle.session.proofs.Given.{on}
-use Rattle.log_steps.specs.Steps.{capacity}
 use Rattle.step_places.specs.Pointed.{present, placed, twoBytes, is128, tagIntact}
 
 module _ (m : Machine) (mem : List ℕ) (s : Step) where

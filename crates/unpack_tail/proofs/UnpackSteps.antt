@@ -13,8 +13,8 @@ use Rattle.packed.specs.Packed.{Found, malformed, bytes, before, run, unpacked}
 use Rattle.packed.specs.Packed.Steps.{front-plain, front-cut, front-run, unpacked-nil}
 use Rattle.packed.specs.Unpacking.{answerOf, leftBy, Unpacks}
 use Rattle.packed.specs.Inner.{over}
-use Rattle.codes.specs.Inner.{pairAt}
-use Rattle.codes.proofs.Pair.{pair-there}
+use Rattle.codes.specs.Inner.{escapeAt}
+use Rattle.codes.proofs.Escape.{escape-there}
 use Rattle.slices.specs.Choose.{choose}
 use Rattle.slices.specs.Put.{put}
 use Rattle.stores.proofs.Written.{stored-put, put-fewer}
@@ -22,21 +22,21 @@ use Rattle.packed.proofs.Frame.{Frame, onward}
 use Rattle.packed.specs.declared.Unpacked.{Unpacked}
 use Rattle.packed.specs.declared.Unpacked.the-variants.{Good, WrongLength, Malformed}
 
-module _ (s : List ℕ) (i : ℕ) (r : Bool) (e : r ≡ pairAt s i) where
+module _ (s : List ℕ) (i : ℕ) (r : Bool) (e : r ≡ escapeAt s i) where
   pub step-plain : i < length s → r ≡ false → unpacked (drop i s) ≡ before (getD s i 0 ∷ []) (unpacked (drop (i + 1) s))
   step-plain h f =
       let l : 0 < length (drop i s) = simp length-drop (omega arith) in
-      rw (getD-drop i s 0 0, drop-drop 1 i s, add-zero i) at (front-plain (drop i s) l (pair-there s i r e ∙ f))
+      rw (getD-drop i s 0 0, drop-drop 1 i s, add-zero i) at (front-plain (drop i s) l (escape-there s i r e ∙ f))
 
   pub step-cut : length s < i + 4 → r ≡ true → unpacked (drop i s) ≡ malformed
   step-cut h t =
       let l : length (drop i s) < 4 = simp length-drop (omega arith) in
-      front-cut (drop i s) l (pair-there s i r e ∙ t)
+      front-cut (drop i s) l (escape-there s i r e ∙ t)
 
   pub step-run : i + 4 ≤ length s → r ≡ true → unpacked (drop i s) ≡ run (getD s (i + 2) 0) (getD s (i + 3) 0) (unpacked (drop (i + 4) s))
   step-run h t =
       let l : 4 ≤ length (drop i s) = simp length-drop (omega arith) in
-      rw (getD-drop i s 2 0, getD-drop i s 3 0, drop-drop 4 i s) at (front-run (drop i s) l (pair-there s i r e ∙ t))
+      rw (getD-drop i s 2 0, getD-drop i s 3 0, drop-drop 4 i s) at (front-run (drop i s) l (escape-there s i r e ∙ t))
 
 pub step-end : (s : List ℕ) (i : ℕ) → length s ≤ i → unpacked (drop i s) ≡ bytes []
 step-end s i h = ap unpacked (drop-of-length-le s {i = i} h) ∙ unpacked-nil
@@ -53,7 +53,7 @@ pub record Resting (s : List ℕ) (from i : ℕ) : Type 0 where
 pub resting-none : (s : List ℕ) (from : ℕ) → from ≤ length s → Resting s from from
 resting-none s from h = record { reach = h; same = refl }
 
-module _ (s : List ℕ) (from i : ℕ) (r : Bool) (g : Resting s from i) (e : r ≡ pairAt s i) where
+module _ (s : List ℕ) (from i : ℕ) (r : Bool) (g : Resting s from i) (e : r ≡ escapeAt s i) where
   pub resting-plain : i < length s → r ≡ false → Resting s from (i + 1)
   resting-plain h f =
       record {
@@ -119,7 +119,7 @@ module _ (u : Found) (s d₀ d : List ℕ) (i o : ℕ) (g : Frame unpacked u s d
     bad-into : why ≡ Malformed → unpacked (drop i s) ≡ malformed → Unpacks u (length d₀) r d′
     bad-into m e = refused-into (m ∙ ap (λ (u : Found). answerOf u (length d₀)) (sym (g .same ∙ ap (before (take o d)) e))) malformed m
 
-  module _ (r : Bool) (e : r ≡ pairAt s i) where
+  module _ (r : Bool) (e : r ≡ escapeAt s i) where
     pub going-plain : (d′ : List ℕ) → d′ ≡ put d o (getD s i 0 ∷ []) → i < length s → r ≡ false → o < length d → Frame unpacked u s d₀ d′ (i + 1) (o + 1)
     going-plain d′ p h f k =
         onward unpacked u s d₀ d i o g d′ (getD s i 0 ∷ []) (i + 1) (o + 1) (record { step = step-plain s i r e h f; inside = omega arith })

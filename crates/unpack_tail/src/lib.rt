@@ -1,5 +1,5 @@
 // Unpacking near an end, byte by byte.
-use codes::pair_at;
+use codes::escape_at;
 use packed::Unpacked;
 ghost use Prim.Native.Nat.{_≤_};
 ghost use mathlib.Core.Path.{_≡_};
@@ -17,7 +17,7 @@ pub fn unpack_rest(src: &[u8], from: usize, dst: &mut [u8], at: usize) -> Unpack
     let mut i = from;
     let mut o = at;
     while i < src.len() {
-        if pair_at(src, i) {
+        if escape_at(src, i) {
             if src.len() < i + 4 {
                 return refused_part(dst, Unpacked::Malformed);
             }
@@ -64,7 +64,7 @@ pub fn rest(src: &[u8], from: usize) -> Unpacked
 {
     let mut i = from;
     while i < src.len() {
-        if pair_at(src, i) {
+        if escape_at(src, i) {
             if src.len() < i + 4 {
                 return Unpacked::Malformed;
             }

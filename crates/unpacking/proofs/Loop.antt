@@ -15,7 +15,7 @@ use Rattle.slices.specs.Choose.{choose}
 use Rattle.slices.specs.Put.{put}
 use Rattle.packed.specs.Unpacking.{answerOf, leftBy, Unpacks}
 use Rattle.packed.specs.Inner.{over}
-use Rattle.codes.specs.Inner.{pairAt, reachOf, Looked}
+use Rattle.codes.specs.Inner.{escapeAt, reachOf, Looked}
 use Rattle.codes.proofs.Codes.{NextCode, next-code}
 use Rattle.packed.specs.declared.Unpacked.{Unpacked}
 use Rattle.packed.specs.declared.Unpacked.the-variants.{Malformed}
@@ -25,19 +25,19 @@ use Rattle.unpack_tail.proofs.UnpackSteps.{zero-into, full-run, going-stored}
 -- the frame, and what was seen ahead
 pub record Unpacking (s d₀ d : List ℕ) (i o m : ℕ) : Type 0 where
   pub frame : Frame unpacked (unpacked s) s d₀ d i o
-  pub ahead : Ahead (pairAt s) i m
+  pub ahead : Ahead (escapeAt s) i m
 
 pub unpacking-none : (s d : List ℕ) → Unpacking s d d 0 0 0
-unpacking-none s d = record { frame = frame-none unpacked s d; ahead = ahead-none (pairAt s) 0 }
+unpacking-none s d = record { frame = frame-none unpacked s d; ahead = ahead-none (escapeAt s) 0 }
 
 -- a number with 64 trailing zeros says nothing of any place
-spent : (s : List ℕ) (i j m : ℕ) → Ahead (pairAt s) i m → 64 ≤ trailingZeros 64 m → Ahead (pairAt s) j m
+spent : (s : List ℕ) (i j m : ℕ) → Ahead (escapeAt s) i m → 64 ≤ trailingZeros 64 m → Ahead (escapeAt s) j m
 spent s i j m a h = go (eqb m 0) refl
   where
-    go : (t : Bool) → eqb m 0 ≡ t → Ahead (pairAt s) j m
-    go true e = subst (Ahead (pairAt s) j) (sym (eqb-true m 0 e)) (ahead-none (pairAt s) j)
+    go : (t : Bool) → eqb m 0 ≡ t → Ahead (escapeAt s) j m
+    go true e = subst (Ahead (escapeAt s) j) (sym (eqb-true m 0 e)) (ahead-none (escapeAt s) j)
     go false e =
-        let f = seen-first (pairAt s) i (a .places) m (a .seen) (a .most) (eqb-false m 0 e) in
+        let f = seen-first (escapeAt s) i (a .places) m (a .seen) (a .most) (eqb-false m 0 e) in
         let z : ⊥ = omega (arith, f .inside, a .most) in absurd z
 
 reach-most : (m : ℕ) → reachOf m ≤ 64
@@ -60,8 +60,8 @@ module _ (s d₀ d : List ℕ) (i o m₀ : ℕ) (g : Unpacking s d₀ d i o m₀
   long : length d′ ≡ length d
   long = let f = reached in f .long ∙ sym (g .frame .long)
 
-  code : (k ≡ 64 → ⊥) → true ≡ pairAt s (i + k)
-  code h = next .code (omega (arith, first-few m k e)) ∙ ap (λ (n : ℕ). pairAt s (i + n)) (sym e)
+  code : (k ≡ 64 → ⊥) → true ≡ escapeAt s (i + k)
+  code h = next .code (omega (arith, first-few m k e)) ∙ ap (λ (n : ℕ). escapeAt s (i + n)) (sym e)
 
   pub unpacking-block : k ≡ 64 → Unpacking s d₀ d′ (i + 64) (o + 64) m
   unpacking-block h =
@@ -86,7 +86,7 @@ module _ (s d₀ d : List ℕ) (i o m₀ : ℕ) (g : Unpacking s d₀ d i o m₀
       stored-run w p few j =
           record {
             frame = going-stored (unpacked s) s d₀ d′ (i + k) (o + k) reached true (code h) n fits refl en d″ w p z few j;
-            ahead = rw (e₂, e₁) (ahead-after (pairAt s) (i + k) (m / 2 ^ k) (ahead-after (pairAt s) i m (next .ahead) k) 4);
+            ahead = rw (e₂, e₁) (ahead-after (escapeAt s) (i + k) (m / 2 ^ k) (ahead-after (escapeAt s) i m (next .ahead) k) 4);
           }
 
       pub unpacking-run : d″ ≡ put d′ (o + k) (replicate n (getD s (i + k + 3) 0)) → o + k + n ≤ length d′ → Unpacking s d₀ d″ (i + k + 4) (o + k + n) m₂

@@ -1,6 +1,6 @@
 -- Two calls of one function end alike: each is the definition's, which knows only the lengths of what is to be overwritten.
 use Prim.Native.Nat.{ℕ}
-use mathlib.Core.Path.{_≡_, sym, ap, _∙_}
+use mathlib.Core.Path.{sym, ap, _∙_}
 use mathlib.Core.List.{List}
 use lib.ListN.{replicate}
 use Rattle.journal_bytes.specs.Calls.{LogStarts}

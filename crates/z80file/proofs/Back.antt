@@ -6,7 +6,7 @@ use mathlib.Core.List.{List, [], _∷_, _++_}
 use native.Mathlib.Omega.{arith}
 use borrow.Author.Tests.{le-ltb, ne-eqb, ltb-true, eqb-true, eqb-false}
 use lib.Dec.{eqb, ltb}
-use lib.ListN.{length, getD, set, take, drop, length-drop, length-take, length-append, length-set, getD-replicate}
+use lib.ListN.{length, getD, set, take, drop, length-append, length-set, getD-replicate}
 use lib.Seq.{drop-drop, take-at, drop-at, getD-set-same, getD-set-other, ext-getD}
 use Rattle.slices.specs.Choose.{choose}
 use Rattle.slices.specs.Bytes.{wordAt}
@@ -18,6 +18,7 @@ use Rattle.pages.specs.declared.Model.{Model}
 use Rattle.pages.specs.declared.Model.the-variants.{K48, K128}
 use Rattle.numbers.specs.declared.Refusal.the-variants.{BlockMissing}
 use Rattle.pages.specs.Pages.{slots, pageAmong, owned, pageIn}
+use Rattle.pages.proofs.Inside.{page-long}
 use Rattle.block_pages.specs.declared.Page.the-variants.{At}
 use Rattle.block_read.specs.Block.{Block, brought, sizeOf, contents, onPage, blockOf}
 use Rattle.blocks.specs.Blocks.{bodyRead, bodyRefused, afterBlock, finished, blocks, noneSeen, blocksInto}
@@ -62,9 +63,6 @@ module _ (model : Model) (seen : List Bool) (number page : ℕ) (p rest : List �
 abbrev Agree : List ℕ → List Bool → List ℕ → Type 0
 Agree a seen t = (i : ℕ) → i < 131072 → getD a i 0 ≡ getD (choose (getD seen (i / 16384) false) t (blank 131072)) i 0
 
-page-long : (t : List ℕ) (page : ℕ) → length t ≡ 131072 → page < 8 → length (pageIn t page) ≡ 16384
-page-long t page l h = simp (length-take, length-drop) (omega arith)
-
 agree-more : (a t : List ℕ) (seen : List Bool) (page : ℕ) → length a ≡ 131072 → length t ≡ 131072 → length seen ≡ 8 → page < 8 → Agree a seen t
     → Agree (put a (page * 16384) (pageIn t page)) (set seen page true) t
 agree-more a t seen page la lt ls h g i hi = go (eqb (i / 16384) page) refl
@@ -83,9 +81,9 @@ agree-more a t seen page la lt ls h g i hi = go (eqb (i / 16384) page) refl
         put-elsewhere a (pageIn t page) page la lp h i q ∙ g i hi ∙ rw (getD-set-other seen page (i / 16384) true false q)
 
 -- the pages seen after a list of blocks, and that each is of this mode and new
-abbrev seenAfter : List Bool → List Slot → List Bool
-seenAfter seen [] = seen
-seenAfter seen (x ∷ more) = seenAfter (set seen (x .page) true) more
+abbrev flagsAfter : List Bool → List Slot → List Bool
+flagsAfter seen [] = seen
+flagsAfter seen (x ∷ more) = flagsAfter (set seen (x .page) true) more
 
 abbrev Fresh : Model → List Bool → List Slot → Type 0
 Fresh model seen [] = Unit {0}
@@ -97,16 +95,16 @@ record ReadsBack (model : Model) (turns : ℕ) (seen : List Bool) (a s : List �
   long : length last ≡ 131072
   agree : Agree last seen′ t
 
-block-long : (number : ℕ) (p : List ℕ) → 0 < length (blockFor number p)
+block-some : (number : ℕ) (p : List ℕ) → 0 < length (blockFor number p)
 unfolding blockFor
-block-long number p = go (ltb (length (packed p)) 16384)
+block-some number p = go (ltb (length (packed p)) 16384)
   where
     go : (b : Bool) → 0 < length (choose b (length (packed p) % 256 ∷ length (packed p) / 256 ∷ number ∷ packed p) (255 ∷ 255 ∷ number ∷ p))
     go true = omega arith
     go false = omega arith
 
 longer : (number : ℕ) (p rest : List ℕ) → length rest < length (blockFor number p ++ rest)
-longer number p rest = omega (arith, length-append (blockFor number p) rest, block-long number p)
+longer number p rest = omega (arith, length-append (blockFor number p) rest, block-some number p)
 
 -- a block before blocks that read
 one-more : (model : Model) (turns number page : ℕ) (seen seen′ : List Bool) (a p rest t : List ℕ)
@@ -125,18 +123,18 @@ one-more model turns number page seen seen′ a p rest t f u l r =
     }
 
 -- by induction over the blocks that are left
-reads : (model : Model) (t : List ℕ) → length t ≡ 131072 → (more : List Slot) (turns : ℕ) (seen : List Bool) (a : List ℕ)
+laid-read : (model : Model) (t : List ℕ) → length t ≡ 131072 → (more : List Slot) (turns : ℕ) (seen : List Bool) (a : List ℕ)
     → length (laid more t) ≤ turns → Fresh model seen more → length seen ≡ 8 → length a ≡ 131072 → Agree a seen t
-    → ReadsBack model turns seen a (laid more t) (seenAfter seen more) t
+    → ReadsBack model turns seen a (laid more t) (flagsAfter seen more) t
 unfolding laid
-reads model t lt [] turns seen a h f ls la g = record { last = a; reading = ended model turns seen a [] refl; long = la; agree = g }
-reads model t lt (x ∷ more) zero seen a h f ls la g = absurd (omega (arith, longer (x .number) (pageIn t (x .page)) (laid more t)))
-reads model t lt (x ∷ more) (suc turns) seen a h f ls la g =
+laid-read model t lt [] turns seen a h f ls la g = record { last = a; reading = ended model turns seen a [] refl; long = la; agree = g }
+laid-read model t lt (x ∷ more) zero seen a h f ls la g = absurd (omega (arith, longer (x .number) (pageIn t (x .page)) (laid more t)))
+laid-read model t lt (x ∷ more) (suc turns) seen a h f ls la g =
     let p = pageIn t (x .page) in
     let k = f .1 .1 .0 in
     let lp = page-long t (x .page) lt k in
     one-more model turns (x .number) (x .page) seen _ a p (laid more t) t (f .0) (f .1 .0) lp
-    (reads model t lt more turns (set seen (x .page) true) _ (omega (arith, longer (x .number) p (laid more t))) (f .1 .1 .1)
+    (laid-read model t lt more turns (set seen (x .page) true) _ (omega (arith, longer (x .number) p (laid more t))) (f .1 .1 .1)
     (length-set seen (x .page) true ∙ ls) (put-long a p (x .page) la lp k) (agree-more a t seen (x .page) la lt ls k g))
 
 fresh : (model : Model) → Fresh model noneSeen (slots model)
@@ -182,7 +180,7 @@ fresh K128 = (
 
 -- the pages seen after a table's blocks are its pages
 seen-among : (more : List Slot) (seen : List Bool) (page : ℕ) → page < length seen
-    → getD (seenAfter seen more) page false ≡ choose (pageAmong more page) true (getD seen page false)
+    → getD (flagsAfter seen more) page false ≡ choose (pageAmong more page) true (getD seen page false)
 seen-among [] seen page h = refl
 seen-among (x ∷ more) seen page h =
     seen-among more (set seen (x .page) true) page (omega (arith, length-set seen (x .page) true)) ∙ go (eqb (x .page) page) (pageAmong more page) refl
@@ -197,7 +195,7 @@ seen-among (x ∷ more) seen page h =
     go false false e = getD-set-other seen (x .page) page true false (λ q. eqb-false _ _ e (sym q))
 
 abbrev allSlots : Model → List Bool
-allSlots model = seenAfter noneSeen (slots model)
+allSlots model = flagsAfter noneSeen (slots model)
 
 seen-owned : (model : Model) (page : ℕ) → page < 8 → getD (allSlots model) page false ≡ owned model page
 seen-owned model page h =
@@ -212,8 +210,8 @@ unfolding allThere
 there K48 = refl
 there K128 = refl
 
-none-seen : (t : List ℕ) → Agree (blank 131072) noneSeen t
-none-seen t i h = rw (getD-replicate 8 (i / 16384) false false (omega arith))
+agree-blank : (t : List ℕ) → Agree (blank 131072) noneSeen t
+agree-blank t i h = rw (getD-replicate 8 (i / 16384) false false (omega arith))
 
 same-area : (model : Model) (t last : List ℕ) → Clean model t → length last ≡ 131072 → Agree last (allSlots model) t → last ≡ t
 same-area model t last s l g = ext-getD 0 last t (l ∙ sym (s .long)) (λ i h. go i (omega arith) (owned model (i / 16384)) refl)
@@ -226,7 +224,7 @@ same-area model t last s l g = ext-getD 0 last t (l ∙ sym (s .long)) (λ i h. 
 pub blocks-back : (model : Model) (area : List ℕ) → Clean model area → blocksInto model (blank 131072) (laid (slots model) area) ≡ bodyRead area
 unfolding blocksInto
 blocks-back model area s =
-    let r = reads model area (s .long) (slots model) (length (laid (slots model) area)) noneSeen (blank 131072) (omega arith) (fresh model) refl (blank-long 131072) (none-seen area) in
+    let r = laid-read model area (s .long) (slots model) (length (laid (slots model) area)) noneSeen (blank 131072) (omega arith) (fresh model) refl (blank-long 131072) (agree-blank area) in
     let e : r .last ≡ area = same-area model area (r .last) s (r .long) (r .agree) in
     r .reading
     ∙ ap (λ (b : Bool). choose b (bodyRead (r .last)) (bodyRefused BlockMissing)) (there model)

@@ -56,9 +56,9 @@ file-back m area t h c =
     ∙ ap (λ (x : Machine). record { answer = Accepted; machine = x; memory = area }) (machine-back m rest t v)
 
 -- what an accepted write left begins with the file
-pub holds : (m : Machine) (area : List ℕ) (n : ℕ) → writtenOf m area n .answer ≡ Accepted → take (writtenOf m area n .size) (writtenOf m area n .out) ≡ fileOf m area
+pub out-is-file : (m : Machine) (area : List ℕ) (n : ℕ) → writtenOf m area n .answer ≡ Accepted → take (writtenOf m area n .size) (writtenOf m area n .out) ≡ fileOf m area
 unfolding writtenOf
-holds m area n = go (validOf m) (eqb (length area) 131072) (leb (length (fileOf m area)) n)
+out-is-file m area n = go (validOf m) (eqb (length area) 131072) (leb (length (fileOf m area)) n)
   where
     f : List ℕ
     f = fileOf m area

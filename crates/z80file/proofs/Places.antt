@@ -19,8 +19,8 @@ in-page i page q = omega arith
 in-size : (i : ℕ) → i % 16384 < 16384
 in-size i = omega arith
 
-past : (i page : ℕ) → (i / 16384 ≡ page → ⊥) → page * 16384 ≤ i → page * 16384 + (16384 + (i - (page * 16384 + 16384))) ≡ i
-past i page q y = omega arith
+past-page : (i page : ℕ) → (i / 16384 ≡ page → ⊥) → page * 16384 ≤ i → page * 16384 + (16384 + (i - (page * 16384 + 16384))) ≡ i
+past-page i page q y = omega arith
 
 -- a byte of an area in its page
 pub page-at : (t : List ℕ) (page i : ℕ) → i / 16384 ≡ page → getD (pageIn t page) (i % 16384) 0 ≡ getD t i 0
@@ -49,7 +49,7 @@ module _ (a p : List ℕ) (page : ℕ) (la : length a ≡ 131072) (lp : length p
       go true z = put-below a p (page * 16384) fits i (ltb-true _ _ z)
       go false z =
           let j = i - (page * 16384 + 16384) in
-          let k : page * 16384 + (length p + j) ≡ i = rw lp (past i page q (ltb-false _ _ z)) in
+          let k : page * 16384 + (length p + j) ≡ i = rw lp (past-page i page q (ltb-false _ _ z)) in
           let k2 : page * 16384 + length p + j ≡ i = omega (arith, k) in
           ap (λ (n : ℕ). getD (put a (page * 16384) p) n 0) (sym k)
           ∙ put-above a p (page * 16384) fits j

@@ -9,7 +9,7 @@ use Rattle.z80write.proofs.Longest.{never-short}
 use Rattle.z80file.specs.RoundTrip.{FilesOf}
 use Rattle.z80file.specs.Theorems.{Theorems}
 use Rattle.z80file.proofs.Accepted.{owned-page}
-use Rattle.z80file.proofs.File.{file-back, holds, read-start}
+use Rattle.z80file.proofs.File.{file-back, out-is-file, read-start}
 use Rattle.z80file.proofs.Cases.{cases}
 use Rattle.z80file.proofs.Refuted.{refuted-refuses-files, refuted-fixed-machine, refuted-invented-length}
 
@@ -19,7 +19,7 @@ files =
       reads = λ s n. refl;
       writes = λ m area n. refl;
       back = λ m area t v c.
-          ap (λ (l : List ℕ). readOf l 131072) (holds m area 131182 (never-short m area 131182 t v (c .long) (omega arith))) ∙ file-back m area t v c;
+          ap (λ (l : List ℕ). readOf l 131072) (out-is-file m area 131182 (never-short m area 131182 t v (c .long) (omega arith))) ∙ file-back m area t v c;
     }
 
 pub theorems : Theorems

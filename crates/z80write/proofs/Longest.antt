@@ -6,10 +6,6 @@ use mathlib.Core.Bool.{true}
 use mathlib.Core.List.{List, [], _∷_, _++_}
 use lib.ListN.{length, take, drop, length-append, length-take}
 use lib.Seq.{take-at, drop-at}
-use lib.Dec.{ltb}
-use borrow.Author.Tests.{ltb-true}
-use Rattle.slices.specs.Choose.{choose}
-use Rattle.slices.proofs.Chosen.{either}
 use Rattle.packed.specs.Packed.{packed}
 use Rattle.packed.specs.Packed.Examples.{mixed, mixed-packed}
 use Rattle.spectrum.specs.declared.Machine.{Machine}
@@ -22,14 +18,8 @@ use Rattle.spectrum.specs.Valid.{validOf, Typed}
 use Rattle.block_write.specs.BlockFor.{blockFor}
 use Rattle.blocks_write.specs.Laid.{laid}
 use Rattle.z80write.specs.Written.{fileOf, WriteResult, acceptedWrite, writtenOf}
-use Rattle.block_write.proofs.Block.{block-size, block-plain}
+use Rattle.block_write.proofs.Block.{block-plain, block-most}
 use Rattle.z80write.proofs.Whole.{file-long, room}
-
-block-most : (number : ℕ) (p : List ℕ) → length p ≤ 16384 → length (blockFor number p) ≤ 16387
-block-most number p h =
-    let most : choose (ltb (length (packed p)) 16384) (length (packed p)) (length p) ≤ 16384 =
-    either (λ (n : ℕ). n ≤ 16384) (ltb (length (packed p)) 16384) (length (packed p)) (length p) (λ e. omega (arith, ltb-true (length (packed p)) 16384 e)) (λ e. h) in
-    omega (arith, block-size number p)
 
 laid-most : (more : List Slot) (area : List ℕ) → length (laid more area) ≤ length more * 16387
 unfolding laid

@@ -21,7 +21,7 @@ use Rattle.header_write.proofs.WriteSteps.{header-length}
 use Rattle.z80write.specs.declared.Written.{Written}
 use Rattle.blocks_write.specs.Laid.{laid}
 use Rattle.z80write.specs.Written.{fileOf, WriteResult, refusedWrite, acceptedWrite, writtenOf, Writes}
-use Rattle.block_write.proofs.Fits.{Standing, Over, FitSays, says}
+use Rattle.block_write.proofs.Fits.{InRoom, OutOfRoom, FitSays, says}
 
 abbrev pub blocksOf : Machine → List ℕ → List ℕ
 blocksOf m area = laid (slots (m .model)) area
@@ -68,20 +68,20 @@ module _ (m : Machine) (area d₀ : List ℕ) (v : Bool) (u : v ≡ validOf m) w
 
       pub blocks-room : (n : ℕ) → f ≡ Length n → 86 + n ≤ length d₀
       blocks-room n q =
-          let w : Standing (blocksOf m area) (length d₀ - 86) n l = subst (λ (z : Fit). FitSays (blocksOf m area) (length d₀ - 86) z l) q told in
+          let w : InRoom (blocksOf m area) (length d₀ - 86) n l = subst (λ (z : Fit). FitSays (blocksOf m area) (length d₀ - 86) z l) q told in
           omega (arith, w .room)
 
       pub writes-short : (r : Written) (d : List ℕ) → Writes (refusedWrite OutputShort (length (putMid 86 (length d₀ - 86) d₀ l))) r d → f ≡ TooShort
           → Writes (writtenOf m area (length d₀)) r d
       writes-short r d w q =
-          let o : Over (blocksOf m area) (length d₀ - 86) l = subst (λ (y : Fit). FitSays (blocksOf m area) (length d₀ - 86) y l) q told in
+          let o : OutOfRoom (blocksOf m area) (length d₀ - 86) l = subst (λ (y : Fit). FitSays (blocksOf m area) (length d₀ - 86) y l) q told in
           let same : length (putMid 86 (length d₀ - 86) d₀ l) ≡ length d₀ = same-len-mid 86 (length d₀ - 86) d₀ l (o .long ∙ sym (mid-len 86 (length d₀) d₀ (omega arith))) in
           equally (no-room m area (length d₀) (sym u ∙ k) h (omega (arith, o .over, file-long m area t))) (subst (λ (n : ℕ). Writes (refusedWrite OutputShort n) r d) same w)
 
       pub writes-file : (n : ℕ) (d : List ℕ) → f ≡ Length n → d ≡ headerOf m ++ drop 86 (putMid 86 (length d₀ - 86) d₀ l)
           → Writes (writtenOf m area (length d₀)) (record { answer = Accepted; length = 86 + n }) d
       writes-file n d q x =
-          let w : Standing (blocksOf m area) (length d₀ - 86) n l = subst (λ (z : Fit). FitSays (blocksOf m area) (length d₀ - 86) z l) q told in
+          let w : InRoom (blocksOf m area) (length d₀ - 86) n l = subst (λ (z : Fit). FitSays (blocksOf m area) (length d₀ - 86) z l) q told in
           let fl = file-long m area t in
           let left : length d₀ - 86 - length (blocksOf m area) ≡ length d₀ - length (fileOf m area) = omega arith in
           let blocks : drop 86 (putMid 86 (length d₀ - 86) d₀ l) ≡ blocksOf m area ++ replicate (length d₀ - 86 - length (blocksOf m area)) 0 =

@@ -1,5 +1,5 @@
 use Rattle.block_pages.specs.Numbered.{pageOf}
-use Rattle.block_pages.proofs.Pages.{on-48, others, low, high, between}
+use Rattle.block_pages.proofs.Pages.{on-48, not-numbered, low, high, between}
 use borrow.Author.Needs.{needs}
 use Rattle.block_pages.proofs.page_of.Statement.{statement}
 use Rattle.block_pages.proofs.page_of.Tie as tie
@@ -32,7 +32,7 @@ unfolding pageOf
 returns-5 c = search on-48
 
 returns-6 : tie.Need-returns-6
-returns-6 c = search others
+returns-6 c = search not-numbered
 
 returns-7 : tie.Need-returns-7
 returns-7 c = search between

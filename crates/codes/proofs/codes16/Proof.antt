@@ -15,8 +15,8 @@ part16-requires-2 c κs = search needs
 put16-requires : tie.Need-put16-requires
 put16-requires c κs = search needs
 
-pairs-requires : tie.Need-pairs-requires
-pairs-requires c κs = search needs
+escapes-requires : tie.Need-escapes-requires
+escapes-requires c κs = search needs
 
 mask-requires : tie.Need-mask-requires
 mask-requires c κs = search needs
@@ -35,7 +35,7 @@ codes16-spec =
     add-part16
     part16-requires-2
     put16-requires
-    pairs-requires
+    escapes-requires
     mask-requires
     same-length
     returns)

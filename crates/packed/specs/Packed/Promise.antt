@@ -10,7 +10,7 @@ use lib.Dec.{eqb, leb}
 use borrow.Author.Tests.{eqb-true, eqb-false, leb-true, leb-false}
 use Rattle.slices.specs.Choose.{choose}
 use Rattle.slices.proofs.Chosen.{either}
-use Rattle.packed.specs.Packed.{Found, malformed, bytes, before, pair, unpacked, front, packedFrom, packed}
+use Rattle.packed.specs.Packed.{Found, malformed, bytes, before, escape, unpacked, front, packedFrom, packed}
 use Rattle.packed.specs.Packed.Steps.{alone, plain, code}
 
 -- the bytes at the front
@@ -161,12 +161,12 @@ all-enough : (s : List ℕ) → Enough (length s) (unpacked s)
 unfolding unpacked
 all-enough [] = omega arith
 all-enough (a ∷ []) = omega arith
-all-enough (a ∷ b ∷ []) = either (Enough 2) (pair a b) _ _ (λ t. tt) (λ f. enough-before (a ∷ []) 2 1 (unpacked (b ∷ [])) (omega arith) (all-enough (b ∷ [])))
-all-enough (a ∷ b ∷ n ∷ []) = either (Enough 3) (pair a b) _ _ (λ t. tt) (λ f. enough-before (a ∷ []) 3 2 (unpacked (b ∷ n ∷ [])) (omega arith) (all-enough (b ∷ n ∷ [])))
+all-enough (a ∷ b ∷ []) = either (Enough 2) (escape a b) _ _ (λ t. tt) (λ f. enough-before (a ∷ []) 2 1 (unpacked (b ∷ [])) (omega arith) (all-enough (b ∷ [])))
+all-enough (a ∷ b ∷ n ∷ []) = either (Enough 3) (escape a b) _ _ (λ t. tt) (λ f. enough-before (a ∷ []) 3 2 (unpacked (b ∷ n ∷ [])) (omega arith) (all-enough (b ∷ n ∷ [])))
 all-enough (a ∷ b ∷ n ∷ y ∷ s) =
     let l = b ∷ n ∷ y ∷ s in
     let k = suc (length l) in
-    either (Enough k) (pair a b) _ _
+    either (Enough k) (escape a b) _ _
     (λ t. either (Enough k) (eqb n 0) _ _ (λ z. tt)
     (λ z. enough-before (replicate n y) k (length s) (unpacked s) (omega (arith, length-replicate n y, eqb-false n 0 z)) (all-enough s)))
     (λ f. enough-before (a ∷ []) k (length l) (unpacked l) (omega arith) (all-enough (b ∷ n ∷ y ∷ s)))

@@ -11,29 +11,29 @@ use lib.Dec.{eqb}
 use borrow.Author.Tests.{eqb-true, eqb-false, ne-eqb, eq-eqb, le-leb, lt-leb}
 use Rattle.slices.specs.Choose.{choose, both}
 use Rattle.slices.proofs.Chosen.{either}
-use Rattle.packed.specs.Packed.{malformed, bytes, before, pair, run, unpacked, front, packedFrom, packed}
+use Rattle.packed.specs.Packed.{malformed, bytes, before, escape, run, unpacked, front, packedFrom, packed}
 
 -- a byte stands for itself where it and the next are not both ED
-pub alone : (x b : ℕ) (s : List ℕ) → pair x b ≡ false → unpacked (x ∷ b ∷ s) ≡ before (x ∷ []) (unpacked (b ∷ s))
+pub alone : (x b : ℕ) (s : List ℕ) → escape x b ≡ false → unpacked (x ∷ b ∷ s) ≡ before (x ∷ []) (unpacked (b ∷ s))
 unfolding unpacked
 alone x b [] h = simp h
 alone x b (n ∷ []) h = simp h
 alone x b (n ∷ y ∷ s) h = simp h
 
-not-pair : (x b : ℕ) → (x ≡ 237 → ⊥) → pair x b ≡ false
-not-pair x b h = simp (ne-eqb x 237 h)
+not-escape : (x b : ℕ) → (x ≡ 237 → ⊥) → escape x b ≡ false
+not-escape x b h = simp (ne-eqb x 237 h)
 
 pub plain : (x : ℕ) (s : List ℕ) → (x ≡ 237 → ⊥) → unpacked (x ∷ s) ≡ before (x ∷ []) (unpacked s)
 unfolding unpacked
 plain x [] h = refl
-plain x (b ∷ s) h = alone x b s (not-pair x b h)
+plain x (b ∷ s) h = alone x b s (not-escape x b h)
 
 pub code : (n y : ℕ) (s : List ℕ) → (n ≡ 0 → ⊥) → unpacked (237 ∷ 237 ∷ n ∷ y ∷ s) ≡ before (replicate n y) (unpacked s)
 unfolding unpacked
 code n y s h = simp (ne-eqb n 0 h)
 
 -- at the front of a list
-pub front-plain : (l : List ℕ) → 0 < length l → pair (getD l 0 0) (getD l 1 0) ≡ false → unpacked l ≡ before (getD l 0 0 ∷ []) (unpacked (drop 1 l))
+pub front-plain : (l : List ℕ) → 0 < length l → escape (getD l 0 0) (getD l 1 0) ≡ false → unpacked l ≡ before (getD l 0 0 ∷ []) (unpacked (drop 1 l))
 unfolding unpacked
 front-plain [] h p = absurd (not-suc-le-zero h)
 front-plain (a ∷ []) h p = refl
@@ -43,7 +43,7 @@ never : (t : Bool) → both t false ≡ true → ⊥
 never true p = let z : _≡_ {A = ℕ} 0 1 = cc in omega arith
 never false p = let z : _≡_ {A = ℕ} 0 1 = cc in omega arith
 
-pub front-cut : (l : List ℕ) → length l < 4 → pair (getD l 0 0) (getD l 1 0) ≡ true → unpacked l ≡ malformed
+pub front-cut : (l : List ℕ) → length l < 4 → escape (getD l 0 0) (getD l 1 0) ≡ true → unpacked l ≡ malformed
 unfolding unpacked
 front-cut [] h p = let z : ⊥ = omega (arith, eqb-true 0 237 p) in absurd z
 front-cut (a ∷ []) h p = absurd (never (eqb a 237) p)
@@ -51,7 +51,7 @@ front-cut (a ∷ b ∷ []) h p = simp p
 front-cut (a ∷ b ∷ n ∷ []) h p = simp p
 front-cut (a ∷ b ∷ n ∷ y ∷ s) h p = let z : ⊥ = omega arith in absurd z
 
-pub front-run : (l : List ℕ) → 4 ≤ length l → pair (getD l 0 0) (getD l 1 0) ≡ true → unpacked l ≡ run (getD l 2 0) (getD l 3 0) (unpacked (drop 4 l))
+pub front-run : (l : List ℕ) → 4 ≤ length l → escape (getD l 0 0) (getD l 1 0) ≡ true → unpacked l ≡ run (getD l 2 0) (getD l 3 0) (unpacked (drop 4 l))
 unfolding unpacked
 front-run [] h p = let z : ⊥ = omega arith in absurd z
 front-run (a ∷ []) h p = let z : ⊥ = omega arith in absurd z

@@ -14,8 +14,8 @@ abbrev μ-loop : tie.MeasureT-loop
 loop-holds : tie.Need-loop-holds Inv-loop μ-loop
 loop-holds c = search resting-none
 
-pair-at-requires : tie.Need-pair-at-requires Inv-loop μ-loop
-pair-at-requires c κs = search needs
+escape-at-requires : tie.Need-escape-at-requires Inv-loop μ-loop
+escape-at-requires c κs = search needs
 
 add-if2 : tie.Need-add-if2 Inv-loop μ-loop
 add-if2 c = search needs
@@ -60,7 +60,7 @@ rest-spec =
     Inv-loop
     μ-loop
     loop-holds
-    pair-at-requires
+    escape-at-requires
     add-if2
     returns
     add-if3

@@ -1,14 +1,14 @@
 use Prim.Native.Nat.{_-_}
 use lib.ListN.{getD}
-use Rattle.packed.specs.Packed.{pair}
+use Rattle.packed.specs.Packed.{escape}
 use borrow.Author.Needs.{needs}
 use Rattle.flags.specs.Places.{Flagged}
 use Rattle.flags.proofs.Places.{flagged-none, flagged-more, flagged-all}
-use Rattle.codes.proofs.pairs.Statement.{statement}
-use Rattle.codes.proofs.pairs.Tie as tie
+use Rattle.codes.proofs.escapes.Statement.{statement}
+use Rattle.codes.proofs.escapes.Tie as tie
 
 abbrev Inv-loop : tie.InvT-loop
-Inv-loop block next c₀ k₀ c k = Flagged (λ j. pair (getD block j 0) (getD next j 0)) c k
+Inv-loop block next c₀ k₀ c k = Flagged (λ j. escape (getD block j 0) (getD next j 0)) c k
 
 abbrev μ-loop : tie.MeasureT-loop
 μ-loop block next c₀ k₀ c k = 16 - k
@@ -16,14 +16,14 @@ abbrev μ-loop : tie.MeasureT-loop
 loop-holds : tie.Need-loop-holds Inv-loop μ-loop
 loop-holds c = search flagged-none
 
-array-read-is-pair : tie.Need-array-read-is-pair Inv-loop μ-loop
-array-read-is-pair c = search needs
+array-read-is-escape : tie.Need-array-read-is-escape Inv-loop μ-loop
+array-read-is-escape c = search needs
 
-array-read-is-pair-2 : tie.Need-array-read-is-pair-2 Inv-loop μ-loop
-array-read-is-pair-2 c = search needs
+array-read-is-escape-2 : tie.Need-array-read-is-escape-2 Inv-loop μ-loop
+array-read-is-escape-2 c = search needs
 
-is-pair-requires : tie.Need-is-pair-requires Inv-loop μ-loop
-is-pair-requires c κs = search needs
+is-escape-requires : tie.Need-is-escape-requires Inv-loop μ-loop
+is-escape-requires c κs = search needs
 
 array-write-c : tie.Need-array-write-c Inv-loop μ-loop
 array-write-c c = search needs
@@ -35,21 +35,21 @@ loop-less : tie.Need-loop-less Inv-loop μ-loop
 loop-less c = search needs
 
 loop-again : tie.Need-loop-again Inv-loop μ-loop
-loop-again c = flagged-more _ _ _ _ (c .before .before .loop .inv) (search needs) (c .is-pair .ensures)
+loop-again c = flagged-more _ _ _ _ (c .before .before .loop .inv) (search needs) (c .is-escape .ensures)
 
 returns : tie.Need-returns Inv-loop μ-loop
 returns c = search flagged-all
 
-pub pairs-spec : {M : Type 1} → statement M
-pairs-spec =
+pub escapes-spec : {M : Type 1} → statement M
+escapes-spec =
     tie.close
     (tie.spec
     Inv-loop
     μ-loop
     loop-holds
-    array-read-is-pair
-    array-read-is-pair-2
-    is-pair-requires
+    array-read-is-escape
+    array-read-is-escape-2
+    is-escape-requires
     array-write-c
     add-k
     loop-less

@@ -1,7 +1,7 @@
-use Rattle.codes.proofs.Pair.{pair-first, pair-none, pair-end}
+use Rattle.codes.proofs.Escape.{escape-first, escape-none, escape-end}
 use borrow.Author.Needs.{needs}
-use Rattle.codes.proofs.pair_at.Statement.{statement}
-use Rattle.codes.proofs.pair_at.Tie as tie
+use Rattle.codes.proofs.escape_at.Statement.{statement}
+use Rattle.codes.proofs.escape_at.Tie as tie
 
 shared-slice-read-if1 : tie.Need-shared-slice-read-if1
 shared-slice-read-if1 c = search needs
@@ -16,16 +16,16 @@ shared-slice-read-result : tie.Need-shared-slice-read-result
 shared-slice-read-result c = search needs
 
 returns : tie.Need-returns
-returns c = search pair-first
+returns c = search escape-first
 
 returns-2 : tie.Need-returns-2
-returns-2 c = search pair-end
+returns-2 c = search escape-end
 
 returns-3 : tie.Need-returns-3
-returns-3 c = search pair-none
+returns-3 c = search escape-none
 
-pub pair-at-spec : {M : Type 1} → statement M
-pair-at-spec =
+pub escape-at-spec : {M : Type 1} → statement M
+escape-at-spec =
     tie.close
     (tie.spec
     shared-slice-read-if1
