@@ -69,7 +69,7 @@ static char *next_line(void)
 }
 
 /* The end of input is as a quit. */
-static void take_line(struct session *session, char *line)
+static void run_typed(struct session *session, char *line)
 {
     if (line == NULL) {
         fputs("\n", stdout);
@@ -94,7 +94,7 @@ enum status from_prompt(struct session *session)
             warned = false;
             continue;
         }
-        take_line(session, line);
+        run_typed(session, line);
         free(line);
         bool warn_now = session->ended && session->unsaved > 0 && !warned;
         if (warn_now) {

@@ -37,6 +37,6 @@ enum status refused_file(const char *file, uint32_t number, const uint8_t *bytes
     else if (hint[0] == 0)
         return refused(file, number);
     else
-        fprintf(stderr, "snapshot: %s: refused, %u: %s (%s)\n", shown(file), (unsigned)number, snap_sentence(number), hint);
+        warn(file, "refused, %u: %s (%s)", (unsigned)number, snap_sentence(number), hint);
     return REFUSED;
 }

@@ -7,7 +7,7 @@ ghost use Prim.Native.Nat.{_<_};
 ghost use mathlib.Core.Path.{_≡_};
 ghost use lib.ListN.{length};
 ghost use Rattle.block_read.specs.Block.{sizeOf};
-ghost use Rattle.block_read.specs.Inner.{Fills, HeadSays};
+ghost use Rattle.block_read.specs.Inner.{Fills, headAt};
 
 // A block's head: a refusal, or where its data lie and which page they are for.
 pub enum BlockHead {
@@ -29,7 +29,7 @@ fn size_of(n: usize) -> usize
 // The block at a place of the file: its head's own refusals, or where its data lie and which page they are for.
 pub fn head_at(file: &[u8], at: usize, model: Model, seen: [bool; 8]) -> BlockHead
     requires { ⌜ at < length (now file) ⌝ }
-    ensures { λ r. ⌜ HeadSays model seen (now (file .entry)) at r ⌝ }
+    ensures { λ r. ⌜ r ≡ headAt model seen (now (file .entry)) at ⌝ }
 {
     let left = file.len() - at;
     if left < 3 {

@@ -19,7 +19,8 @@ use Rattle.block_read.specs.declared.BlockHead.{BlockHead}
 use Rattle.block_read.specs.declared.BlockHead.the-variants.{Bad, Data}
 use Rattle.block_read.specs.Block.{refused, brought, contents, pageFrom}
 use Rattle.block_read.proofs.Answers.{good-is, malformed-is, wrong-is}
-use Rattle.block_read.specs.Inner.{HeadSays, Refuses, BlockAt, Fills}
+use Rattle.block_read.specs.Inner.{Fills, headAt, Refuses}
+use Rattle.block_read.proofs.Heads.{BlockAt, HeadSays, head-says}
 use Rattle.blocks.specs.Inner.{Brings}
 
 -- the page that a lent part of 16,384 bytes gives
@@ -33,15 +34,16 @@ module _ (u : Found) (n : ℕ) (r : Unpacked) (part : List ℕ) (f : Unpacks u n
   page-wrong : r ≡ WrongLength → pageFrom u page rest ≡ refused UnpackedLength
   page-wrong e = let w = wrong-is u n 16384 r part f l e in rw (w .1 .0, w .1 .1)
 
-pub head-refuses : (k : Model) (seen : List Bool) (file : List ℕ) (at : ℕ) (h : BlockHead) (n : Refusal) → HeadSays k seen file at h → h ≡ Bad n → Refuses k seen file at n
-head-refuses k seen file at h n s e = subst (HeadSays k seen file at) e s
+pub head-refuses : (k : Model) (seen : List Bool) (file : List ℕ) (at : ℕ) (h : BlockHead) (n : Refusal) → at < length file → h ≡ headAt k seen file at → h ≡ Bad n → Refuses k seen file at n
+head-refuses k seen file at h n l s e = subst (HeadSays k seen file at) e (head-says k seen file at h l s)
 
 part-long : (before : List ℕ) (page : ℕ) → page < 8 → length before ≡ 131072 → length (take (page * 16384 + 16384 - page * 16384) (drop (page * 16384) before)) ≡ 16384
 part-long before page h l = simp (length-take, length-drop) (omega arith)
 
-module _ (k : Model) (seen : List Bool) (file : List ℕ) (at : ℕ) (head : BlockHead) (page start end : ℕ) (plain : Bool) (hs : HeadSays k seen file at head) (hd : head ≡ Data page start end plain) where
+module _ (k : Model) (seen : List Bool) (file : List ℕ) (at : ℕ) (head : BlockHead) (page start end : ℕ) (plain : Bool) (inside : at < length file)
+    (hs : head ≡ headAt k seen file at) (hd : head ≡ Data page start end plain) where
   head-holds : BlockAt k seen file at page start end plain
-  head-holds = subst (HeadSays k seen file at) hd hs
+  head-holds = subst (HeadSays k seen file at) hd (head-says k seen file at head inside hs)
 
   pub page-below : page < 8
   page-below = head-holds .page-small

@@ -1,4 +1,4 @@
--- After every list of calls the session is the model's: by induction, from a relation that each call keeps.
+-- After every list of calls the session is the paper bench's: by induction, from a relation that each call keeps.
 use Prim.Native.Nat.{ℕ, suc, _+_, _-_, _*_, _≤_, _<_}
 use mathlib.Core.Path.{_≡_, refl, sym, ap, subst, _∙_}
 use mathlib.Core.Bool.{true}
@@ -21,7 +21,7 @@ use Rattle.undo.specs.Undo.{moved, undoOf, redoOf}
 use Rattle.five_calls.specs.declared.Call.{Call}
 use Rattle.five_calls.specs.declared.Call.the-variants.{Byte, Pair, Out, Undo, Redo}
 use Rattle.journal.specs.Journal.{soundness, ifSound, journalCall}
-use Rattle.claim.specs.History.{made, History, ModelResult, joins, modelCorrect, modelUndo, modelRedo, modelCall, noHistory, modelAfter, modelAnswers}
+use Rattle.claim.specs.History.{made, History, HistoryResult, joins, historyCorrect, historyUndo, historyRedo, historyCall, noHistory, historyAfter, historyAnswers}
 use Rattle.claim.specs.Claim.{ValidStart, TypedCall, TypedCalls, runAfter, runAnswers, ClaimOf}
 use Rattle.claim.proofs.Held.{TypedCorrection, Held, held, answer-room}
 
@@ -45,13 +45,13 @@ record Kept (start : State) (size : ℕ) (log : List ℕ) (b : History) : Type 0
   future : Future log (made start (b .applied)) (length (b .applied)) (b .undone)
 
 -- the session that a history says, but for the log
-abbrev modelSession : State → List ℕ → History → Session
-modelSession start log b =
+abbrev historySession : State → List ℕ → History → Session
+historySession start log b =
     record { state = made start (b .applied); log = log; standing = length (b .applied); total = length (b .applied) + length (b .undone) }
 
-record Agrees (start : State) (size : ℕ) (x : CallResult) (t : ModelResult) : Type 0 where
+record Agrees (start : State) (size : ℕ) (x : CallResult) (t : HistoryResult) : Type 0 where
   log : List ℕ
-  same : x ≡ record { answer = t .answer; session = modelSession start log (t .history) }
+  same : x ≡ record { answer = t .answer; session = historySession start log (t .history) }
   kept : Kept start size log (t .history)
 
 -- ---- each call keeps it
@@ -77,7 +77,7 @@ module _ (start : State) (size : ℕ) where
   capped : (log : List ℕ) → length log ≡ size → capacity (length log) ≡ capacity size
   capped log e = ap capacity e
 
-  sound-passes : (log : List ℕ) (b : History) → Kept start size log b → (x : CallResult) → ifSound (modelSession start log b) x ≡ x
+  sound-passes : (log : List ℕ) (b : History) → Kept start size log b → (x : CallResult) → ifSound (historySession start log b) x ≡ x
   unfolding soundness
   sound-passes log b k x =
       simp (
@@ -92,13 +92,13 @@ module _ (start : State) (size : ℕ) where
   moved-is d s was v n w n′ t e1 e2 e3 e4 e5 = simp (e1, eq-eqb (present s (d .state)) was e2, e3, e4, e5)
 
   undo-agrees : (log : List ℕ) (cs us : List Correction) → Kept start size log (record { applied = cs; undone = us })
-      → Agrees start size (journalCall Undo (modelSession start log (record { applied = cs; undone = us }))) (modelUndo cs us)
+      → Agrees start size (journalCall Undo (historySession start log (record { applied = cs; undone = us }))) (historyUndo cs us)
   unfolding journalCall undoOf
   undo-agrees log [] us k = record { log = log; same = sound-passes log _ k _; kept = k }
   undo-agrees log (c ∷ cs) us k =
       let v = made start cs in
       let h = k .past .0 in
-      let d = modelSession start log (record { applied = c ∷ cs; undone = us }) in
+      let d = historySession start log (record { applied = c ∷ cs; undone = us }) in
       let n1 : suc (length cs) - 1 ≡ length cs = omega arith in
       let i : intact (make c v .machine .model) (stepFor c v) ≡ true = rw (h .model) (h .whole) in
       record {
@@ -111,14 +111,14 @@ module _ (start : State) (size : ℕ) where
       }
 
   redo-agrees : (log : List ℕ) (cs us : List Correction) → Kept start size log (record { applied = cs; undone = us })
-      → Agrees start size (journalCall Redo (modelSession start log (record { applied = cs; undone = us }))) (modelRedo cs us)
+      → Agrees start size (journalCall Redo (historySession start log (record { applied = cs; undone = us }))) (historyRedo cs us)
   unfolding journalCall redoOf
   redo-agrees log cs [] k =
       record { log = log; same = sound-passes log _ k _ ∙ simp (le-ltb (length cs) (length cs + 0) (omega arith)); kept = k }
   redo-agrees log cs (c ∷ us) k =
       let v = made start cs in
       let h = k .future .0 in
-      let d = modelSession start log (record { applied = cs; undone = c ∷ us }) in
+      let d = historySession start log (record { applied = cs; undone = c ∷ us }) in
       record {
         log = log;
         same =
@@ -129,7 +129,7 @@ module _ (start : State) (size : ℕ) where
       }
 
   correct-agrees : (log : List ℕ) (b : History) (c : Correction) → TypedCorrection c → Kept start size log b
-      → Agrees start size (ifSound (modelSession start log b) (corrected c (modelSession start log b))) (modelCorrect start size b c)
+      → Agrees start size (ifSound (historySession start log b) (corrected c (historySession start log b))) (historyCorrect start size b c)
   unfolding corrected
   correct-agrees log b c wide k = go (correctionAnswer (capacity size) w n c) refl
     where
@@ -139,7 +139,7 @@ module _ (start : State) (size : ℕ) where
       n : ℕ
       n = length (b .applied)
 
-      go : (a : Answer) → correctionAnswer (capacity size) w n c ≡ a → Agrees start size (ifSound (modelSession start log b) (corrected c (modelSession start log b))) (joins (correctionAnswer (capacity size) w n c) c b)
+      go : (a : Answer) → correctionAnswer (capacity size) w n c ≡ a → Agrees start size (ifSound (historySession start log b) (corrected c (historySession start log b))) (joins (correctionAnswer (capacity size) w n c) c b)
       go Accepted e =
           let lt : n < capacity size = answer-room (capacity size) w n c e in
           let fits = room-in-log log (capacity size) n (capped log (k .long)) lt in
@@ -159,7 +159,7 @@ module _ (start : State) (size : ℕ) where
       go (Refused why) e = rw e (record { log = log; same = sound-passes log b k _ ∙ simp (capped log (k .long), e); kept = k })
 
   call-agrees : (call : Call) (log : List ℕ) (b : History) → TypedCall call → Kept start size log b
-      → Agrees start size (journalCall call (modelSession start log b)) (modelCall start size b call)
+      → Agrees start size (journalCall call (historySession start log b)) (historyCall start size b call)
   unfolding journalCall
   call-agrees (Byte a v) log b wide k = correct-agrees log b (byteAt a v) wide k
   call-agrees (Pair p v) log b wide k = correct-agrees log b (pairTo p v) wide k
@@ -170,20 +170,20 @@ module _ (start : State) (size : ℕ) where
   -- what holds after a list of calls
   record Told (calls : List Call) (log : List ℕ) (b : History) : Type 0 where
     last : List ℕ
-    fit : ValidStart (made start (modelAfter start size b calls .applied))
-    session : runAfter journalCall (modelSession start log b) calls ≡ modelSession start last (modelAfter start size b calls)
-    answers : runAnswers journalCall (modelSession start log b) calls ≡ modelAnswers start size b calls
+    fit : ValidStart (made start (historyAfter start size b calls .applied))
+    session : runAfter journalCall (historySession start log b) calls ≡ historySession start last (historyAfter start size b calls)
+    answers : runAnswers journalCall (historySession start log b) calls ≡ historyAnswers start size b calls
 
   calls-agree : (calls : List Call) (log : List ℕ) (b : History) → TypedCalls calls → Kept start size log b → Told calls log b
   calls-agree [] log b wide k = record { last = log; fit = k .fit; session = refl; answers = refl }
   calls-agree (c ∷ cs) log b wide k =
       let a = call-agrees c log b (wide .0) k in
-      let t = calls-agree cs (a .log) (modelCall start size b c .history) (wide .1) (a .kept) in
+      let t = calls-agree cs (a .log) (historyCall start size b c .history) (wide .1) (a .kept) in
       record {
         last = t .last;
         fit = t .fit;
         session = ap (λ (x : CallResult). runAfter journalCall (x .session) cs) (a .same) ∙ t .session;
-        answers = ap (λ (x : CallResult). x .answer ∷ runAnswers journalCall (x .session) cs) (a .same) ∙ ap (λ (l : List Answer). modelCall start size b c .answer ∷ l) (t .answers);
+        answers = ap (λ (x : CallResult). x .answer ∷ runAnswers journalCall (x .session) cs) (a .same) ∙ ap (λ (l : List Answer). historyCall start size b c .answer ∷ l) (t .answers);
       }
 
   told : (log : List ℕ) → length log ≡ size → ValidStart start → (calls : List Call) → TypedCalls calls → Told calls log noHistory

@@ -1,4 +1,4 @@
--- 28 and 29 never come in a run from a fresh log: no answer of the model has these numbers, and the run's answers are the model's.
+-- 28 and 29 never come in a run from a fresh log: no answer of the paper bench has these numbers, and the run's answers are these.
 use Prim.Native.Nat.{ℕ, _/_, _%_}
 use mathlib.Core.Path.{_≡_, sym, subst}
 use mathlib.Core.Bool.{Bool, true, false, not}
@@ -22,7 +22,7 @@ use Rattle.corrections.specs.Corrections.{Correction, byteAt, pairTo, outTo, pl
 use Rattle.five_calls.specs.declared.Call.{Call}
 use Rattle.five_calls.specs.declared.Call.the-variants.{Byte, Pair, Out, Undo, Redo}
 use Rattle.journal.specs.Journal.{journalCall}
-use Rattle.claim.specs.History.{made, History, joins, modelUndo, modelRedo, modelCall, noHistory, modelAnswers}
+use Rattle.claim.specs.History.{made, History, joins, historyUndo, historyRedo, historyCall, noHistory, historyAnswers}
 use Rattle.claim.specs.Claim.{ValidStart, TypedCalls, runAnswers}
 use Rattle.claim.specs.Theorems.{NoneIs28Or29}
 use Rattle.claim.proofs.Claim.{claim}
@@ -55,11 +55,11 @@ joins-other : (a : Answer) (c : Correction) (b : History) → Not28Or29 (numberO
 joins-other Accepted c b q = q
 joins-other (Refused why) c b q = q
 
-undo-other : (cs us : List Correction) → Not28Or29 (numberOf (modelUndo cs us .answer))
+undo-other : (cs us : List Correction) → Not28Or29 (numberOf (historyUndo cs us .answer))
 undo-other [] us = (λ e. omega arith, λ e. omega arith)
 undo-other (c ∷ cs) us = (λ e. omega arith, λ e. omega arith)
 
-redo-other : (cs us : List Correction) → Not28Or29 (numberOf (modelRedo cs us .answer))
+redo-other : (cs us : List Correction) → Not28Or29 (numberOf (historyRedo cs us .answer))
 redo-other cs [] = (λ e. omega arith, λ e. omega arith)
 redo-other cs (u ∷ us) = (λ e. omega arith, λ e. omega arith)
 
@@ -67,16 +67,16 @@ correct-other : (start : State) (size : ℕ) (b : History) (c : Correction) → 
 correct-other start size b c =
     joins-other (correctionAnswer (capacity size) (made start (b .applied)) (length (b .applied)) c) c b (answer-other (capacity size) (made start (b .applied)) (length (b .applied)) c)
 
-call-other : (start : State) (size : ℕ) (b : History) (c : Call) → Not28Or29 (numberOf (modelCall start size b c .answer))
+call-other : (start : State) (size : ℕ) (b : History) (c : Call) → Not28Or29 (numberOf (historyCall start size b c .answer))
 call-other start size b (Byte a v) = correct-other start size b (byteAt a v)
 call-other start size b (Pair p v) = correct-other start size b (pairTo p v)
 call-other start size b (Out v) = correct-other start size b (outTo v)
 call-other start size b Undo = undo-other (b .applied) (b .undone)
 call-other start size b Redo = redo-other (b .applied) (b .undone)
 
-model-never : (start : State) (size : ℕ) (b : History) (calls : List Call) → NoneIs28Or29 (modelAnswers start size b calls)
-model-never start size b [] = tt
-model-never start size b (c ∷ cs) = (call-other start size b c .0, call-other start size b c .1, model-never start size (modelCall start size b c .history) cs)
+history-never : (start : State) (size : ℕ) (b : History) (calls : List Call) → NoneIs28Or29 (historyAnswers start size b calls)
+history-never start size b [] = tt
+history-never start size b (c ∷ cs) = (call-other start size b c .0, call-other start size b c .1, history-never start size (historyCall start size b c .history) cs)
 
 pub never-28-29 : (start : State) (log : List ℕ) → ValidStart start → (calls : List Call) → TypedCalls calls → NoneIs28Or29 (runAnswers journalCall (started start log) calls)
-never-28-29 start log ok calls wide = subst NoneIs28Or29 (sym (claim start log ok calls wide .answers)) (model-never start (length log) noHistory calls)
+never-28-29 start log ok calls wide = subst NoneIs28Or29 (sym (claim start log ok calls wide .answers)) (history-never start (length log) noHistory calls)

@@ -10,7 +10,7 @@ use Rattle.spectrum.specs.Valid.{Typed, validOf}
 use Rattle.five_calls.specs.declared.Call.{Call}
 use Rattle.five_calls.specs.declared.Call.the-variants.{Byte, Pair, Out, Undo, Redo}
 use Rattle.session.specs.Session.{Session, CallResult, started}
-use Rattle.claim.specs.History.{made, noHistory, modelHistory, modelAnswers}
+use Rattle.claim.specs.History.{made, noHistory, historyOf, historyAnswers}
 
 -- a start: a valid machine with 131,072 bytes; the last two are what the types of the code say of both
 pub record ValidStart (w : State) : Type 0 where
@@ -40,13 +40,13 @@ abbrev pub runAnswers : (Call → Session → CallResult) → Session → List C
 runAnswers f d [] = []
 runAnswers f d (c ∷ cs) = f c d .answer ∷ runAnswers f (f c d .session) cs
 
--- the claim of a way f to make calls: after this list, from this start and log, all is the model's
+-- the claim of a way f to make calls: after this list, from this start and log, all is the paper bench's
 pub record Claim (f : Call → Session → CallResult) (start : State) (log : List ℕ) (calls : List Call) : Type 0 where
-  pub state : runAfter f (started start log) calls .state ≡ made start (modelHistory start (length log) calls .applied)
-  pub standing : runAfter f (started start log) calls .standing ≡ length (modelHistory start (length log) calls .applied)
+  pub state : runAfter f (started start log) calls .state ≡ made start (historyOf start (length log) calls .applied)
+  pub standing : runAfter f (started start log) calls .standing ≡ length (historyOf start (length log) calls .applied)
   pub total : runAfter f (started start log) calls .total
-      ≡ length (modelHistory start (length log) calls .applied) + length (modelHistory start (length log) calls .undone)
-  pub answers : runAnswers f (started start log) calls ≡ modelAnswers start (length log) noHistory calls
+      ≡ length (historyOf start (length log) calls .applied) + length (historyOf start (length log) calls .undone)
+  pub answers : runAnswers f (started start log) calls ≡ historyAnswers start (length log) noHistory calls
 
 -- DEMAND 3 of a way f to make calls: "From any valid machine with any memory of 131,072 bytes and a fresh log of any length, after ANY
 -- LIST of calls .. machine and memory equal the start's with the standing corrections made afresh in order. .. One claim over every list"

@@ -22,47 +22,47 @@ pub record History : Type 0 where
   pub applied : List Correction
   pub undone : List Correction
 
-pub record ModelResult : Type 0 where
+pub record HistoryResult : Type 0 where
   pub answer : Answer
   pub history : History
 
 -- "Correction: refused with the first number of its order that holds here. Else it joins the standing ones as last, and none waits."
-abbrev pub joins : Answer → Correction → History → ModelResult
+abbrev pub joins : Answer → Correction → History → HistoryResult
 joins Accepted c b = record { answer = Accepted; history = record { applied = c ∷ b .applied; undone = [] } }
 joins (Refused why) c b = record { answer = Refused why; history = b }
 
-abbrev pub modelCorrect : State → ℕ → History → Correction → ModelResult
-modelCorrect start size b c = joins (correctionAnswer (capacity size) (made start (b .applied)) (length (b .applied)) c) c b
+abbrev pub historyCorrect : State → ℕ → History → Correction → HistoryResult
+historyCorrect start size b c = joins (correctionAnswer (capacity size) (made start (b .applied)) (length (b .applied)) c) c b
 
 -- "Undo: 27 if none stands, else the last standing one becomes the first to wait."
-abbrev pub modelUndo : List Correction → List Correction → ModelResult
-modelUndo [] us = record { answer = Refused NothingToMove; history = record { applied = []; undone = us } }
-modelUndo (c ∷ cs) us = record { answer = Accepted; history = record { applied = cs; undone = c ∷ us } }
+abbrev pub historyUndo : List Correction → List Correction → HistoryResult
+historyUndo [] us = record { answer = Refused NothingToMove; history = record { applied = []; undone = us } }
+historyUndo (c ∷ cs) us = record { answer = Accepted; history = record { applied = cs; undone = c ∷ us } }
 
 -- "Redo: 27 if none waits, else the first to wait becomes the last standing one."
-abbrev pub modelRedo : List Correction → List Correction → ModelResult
-modelRedo cs [] = record { answer = Refused NothingToMove; history = record { applied = cs; undone = [] } }
-modelRedo cs (u ∷ us) = record { answer = Accepted; history = record { applied = u ∷ cs; undone = us } }
+abbrev pub historyRedo : List Correction → List Correction → HistoryResult
+historyRedo cs [] = record { answer = Refused NothingToMove; history = record { applied = cs; undone = [] } }
+historyRedo cs (u ∷ us) = record { answer = Accepted; history = record { applied = u ∷ cs; undone = us } }
 
-abbrev pub modelCall : State → ℕ → History → Call → ModelResult
-modelCall start size b (Byte address v) = modelCorrect start size b (byteAt address v)
-modelCall start size b (Pair p v) = modelCorrect start size b (pairTo p v)
-modelCall start size b (Out v) = modelCorrect start size b (outTo v)
-modelCall start size b Undo = modelUndo (b .applied) (b .undone)
-modelCall start size b Redo = modelRedo (b .applied) (b .undone)
+abbrev pub historyCall : State → ℕ → History → Call → HistoryResult
+historyCall start size b (Byte address v) = historyCorrect start size b (byteAt address v)
+historyCall start size b (Pair p v) = historyCorrect start size b (pairTo p v)
+historyCall start size b (Out v) = historyCorrect start size b (outTo v)
+historyCall start size b Undo = historyUndo (b .applied) (b .undone)
+historyCall start size b Redo = historyRedo (b .applied) (b .undone)
 
 -- "empty at first"
 abbrev pub noHistory : History
 noHistory = record { applied = []; undone = [] }
 
 -- the history after a list of calls, and the answers
-abbrev pub modelAfter : State → ℕ → History → List Call → History
-modelAfter start size b [] = b
-modelAfter start size b (c ∷ cs) = modelAfter start size (modelCall start size b c .history) cs
+abbrev pub historyAfter : State → ℕ → History → List Call → History
+historyAfter start size b [] = b
+historyAfter start size b (c ∷ cs) = historyAfter start size (historyCall start size b c .history) cs
 
-abbrev pub modelAnswers : State → ℕ → History → List Call → List Answer
-modelAnswers start size b [] = []
-modelAnswers start size b (c ∷ cs) = modelCall start size b c .answer ∷ modelAnswers start size (modelCall start size b c .history) cs
+abbrev pub historyAnswers : State → ℕ → History → List Call → List Answer
+historyAnswers start size b [] = []
+historyAnswers start size b (c ∷ cs) = historyCall start size b c .answer ∷ historyAnswers start size (historyCall start size b c .history) cs
 
-abbrev pub modelHistory : State → ℕ → List Call → History
-modelHistory start size calls = modelAfter start size noHistory calls
+abbrev pub historyOf : State → ℕ → List Call → History
+historyOf start size calls = historyAfter start size noHistory calls

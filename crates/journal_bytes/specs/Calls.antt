@@ -3,6 +3,8 @@ use Prim.Native.Nat.{ℕ}
 use mathlib.Core.Path.{_≡_}
 use mathlib.Core.List.{List}
 use lib.ListN.{replicate}
+use denote.Ref.{RefT, now}
+use denote.Triple.Both.{Both}
 use Rattle.slices.specs.Choose.{choose}
 use Rattle.spectrum.specs.declared.Machine.{Machine}
 use Rattle.numbers.specs.Numbers.{numberOf}
@@ -23,6 +25,17 @@ pub record Buffers : Type 0 where
 
 abbrev pub buffers : List ℕ → List ℕ → List ℕ → ℕ → ℕ → Buffers
 buffers header area log standing total = record { header = header; area = area; log = log; standing = standing; total = total }
+
+-- what is lent to a function, as it came (`entry`) and as it is left (`exit`)
+abbrev pub Lent : Type 0 → Type 0
+Lent X = Both (RefT X) (RefT X)
+
+-- the buffers of a call as they came, and as they are left
+abbrev pub buffersIn : Lent (List ℕ) → Lent (List ℕ) → Lent (List ℕ) → Lent ℕ → Lent ℕ → Buffers
+buffersIn header area log standing total = buffers (now (header .entry)) (now (area .entry)) (now (log .entry)) (now (standing .entry)) (now (total .entry))
+
+abbrev pub buffersOut : Lent (List ℕ) → Lent (List ℕ) → Lent (List ℕ) → Lent ℕ → Lent ℕ → Buffers
+buffersOut header area log standing total = buffers (now (header .exit)) (now (area .exit)) (now (log .exit)) (now (standing .exit)) (now (total .exit))
 
 pub record Answered : Type 0 where
   pub answer : ℕ

@@ -7,7 +7,7 @@ use session::Counts;
 use session::Done;
 ghost use mathlib.Core.Path.{_≡_};
 ghost use lib.ListN.{length};
-ghost use Rattle.journal_bytes.specs.Calls.{buffers, snapCall, CallLeaves, LogStarts};
+ghost use Rattle.journal_bytes.specs.Calls.{buffersIn, buffersOut, snapCall, CallLeaves, LogStarts};
 ghost use Rattle.journal_bytes.specs.Inner.{PutBack};
 
 // A log just started.
@@ -29,7 +29,7 @@ pub fn call(
     total: &mut u64,
     call: Call,
 ) -> u32
-    ensures { λ r. ⌜ CallLeaves (snapCall call (buffers (now (head .entry)) (now (area .entry)) (now (log .entry)) (now (standing .entry)) (now (total .entry)))) r (buffers (now (head .exit)) (now (area .exit)) (now (log .exit)) (now (standing .exit)) (now (total .exit))) ⌝ }
+    ensures { λ r. ⌜ CallLeaves (snapCall call (buffersIn head area log standing total)) r (buffersOut head area log standing total) ⌝ }
 {
     let decoded = header_canonical::decode_header(head);
     if decoded.canonical {

@@ -9,7 +9,7 @@ use Rattle.header_write.specs.Writing.{headerOf}
 use Rattle.header_canonical.proofs.Canonical.{decoded-back}
 use Rattle.five_calls.specs.declared.Call.{Call}
 use Rattle.spectrum.specs.State.{State}
-use Rattle.claim.specs.History.{noHistory, modelAfter, modelAnswers}
+use Rattle.claim.specs.History.{noHistory, historyAfter, historyAnswers}
 use Rattle.session.specs.Session.{Session, CallResult, started}
 use Rattle.journal.specs.Journal.{journalCall}
 use Rattle.claim.specs.Claim.{ValidStart, TypedCalls, runAfter, runAnswers}
@@ -51,12 +51,12 @@ byte-claim start size ok calls wide =
     let q = claim start fresh ok calls wide in
     let long : length fresh ≡ size = length-replicate {A = ℕ} size 0 in
     record {
-      left = subst (λ (k : ℕ). HistoryBytes start (modelAfter start k noHistory calls) (runBuffers snapCall (startedBuffers (headerOf (start .machine)) (start .memory) size) calls)) long
+      left = subst (λ (k : ℕ). HistoryBytes start (historyAfter start k noHistory calls) (runBuffers snapCall (startedBuffers (headerOf (start .machine)) (start .memory) size) calls)) long
           (record {
             header = ap (λ (b : Buffers). b .header) r ∙ ap (λ (w : State). headerOf (w .machine)) (q .state);
             area = ap (λ (b : Buffers). b .area) r ∙ ap (λ (w : State). w .memory) (q .state);
             standing = ap (λ (b : Buffers). b .standing) r ∙ q .standing;
             total = ap (λ (b : Buffers). b .total) r ∙ q .total;
           });
-      numbers = numbers-are calls d wide ahead ∙ ap (map numberOf) (q .answers) ∙ ap (λ (k : ℕ). map numberOf (modelAnswers start k noHistory calls)) long;
+      numbers = numbers-are calls d wide ahead ∙ ap (map numberOf) (q .answers) ∙ ap (λ (k : ℕ). map numberOf (historyAnswers start k noHistory calls)) long;
     }

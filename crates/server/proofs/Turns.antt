@@ -14,7 +14,7 @@ use Rattle.header_canonical.specs.Canonical.{decodedOf, badHeader}
 use Rattle.header_canonical.proofs.Canonical.{decoded-is}
 use Rattle.five_calls.specs.declared.Call.{Call}
 use Rattle.spectrum.specs.State.{State}
-use Rattle.claim.specs.History.{modelHistory}
+use Rattle.claim.specs.History.{historyOf}
 use Rattle.session.specs.Session.{Session, CallResult}
 use Rattle.claim.specs.Claim.{ValidStart}
 use Rattle.call_list.specs.CallList.{callAt, callsFrom, callCount, callsIn}
@@ -125,7 +125,7 @@ serves head area log zeros calls room r s t x numbers hb ab cb ez es et er g₀ 
           let q = byte-claim start (length log) fit cs (typed-all calls cb 0 (callCount calls room)) in
           let h : startedBuffers head area (length log) ≡ startedBuffers (headerOf m) area (length log) = λ k. startedBuffers (f .is k) area (length log) in
           record {
-            left = subst (HistoryBytes start (modelHistory start (length log) cs)) (sym (g .left ∙ ap (λ (y : Buffers). runBuffers snapCall y cs) h)) (q .left);
+            left = subst (HistoryBytes start (historyOf start (length log) cs)) (sym (g .left ∙ ap (λ (y : Buffers). runBuffers snapCall y cs) h)) (q .left);
             said = g .said ∙ ap (λ (y : Buffers). runNumbers snapCall y cs ++ replicate left 0) h ∙ ap (λ (z : List ℕ). z ++ replicate left 0) (q .numbers);
           };
       not-ours = λ none.

@@ -10,7 +10,7 @@ use Rattle.header_write.specs.Writing.{headerOf, HeaderFor}
 use Rattle.header_canonical.specs.Canonical.{badHeader}
 use Rattle.five_calls.specs.declared.Call.{Call}
 use Rattle.spectrum.specs.State.{State}
-use Rattle.claim.specs.History.{History, made, noHistory, modelHistory, modelAnswers}
+use Rattle.claim.specs.History.{History, made, noHistory, historyOf, historyAnswers}
 use Rattle.claim.specs.Claim.{ValidStart, TypedCalls}
 use Rattle.call_list.specs.CallList.{callCount, callsIn, numbersIn}
 use Rattle.journal_bytes.specs.Calls.{Buffers, buffers, Answered, snapCall}
@@ -36,12 +36,12 @@ pub record HistoryBytes (start : State) (b : History) (x : Buffers) : Type 0 whe
   pub total : x .total ≡ length (b .applied) + length (b .undone)
 
 -- the claim of a way f to make calls over bytes: after this list, from the header and the area of this start and a log of so many bytes just started,
--- header, area, both numbers and every answer are the model's
+-- header, area, both numbers and every answer are the paper bench's
 pub record ByteClaim (f : Call → Buffers → Answered) (start : State) (size : ℕ) (calls : List Call) : Type 0 where
-  pub left : HistoryBytes start (modelHistory start size calls)
+  pub left : HistoryBytes start (historyOf start size calls)
       (runBuffers f (startedBuffers (headerOf (start .machine)) (start .memory) size) calls)
   pub numbers : runNumbers f (startedBuffers (headerOf (start .machine)) (start .memory) size) calls
-      ≡ map numberOf (modelAnswers start size noHistory calls)
+      ≡ map numberOf (historyAnswers start size noHistory calls)
 
 -- DEMAND 3, IN BYTES, of a way f to make calls
 abbrev pub ByteClaimOf : (Call → Buffers → Answered) → Type 0
@@ -52,10 +52,10 @@ pub record RanBytes (encoded : List ℕ) (room : ℕ) (x₀ x : Buffers) (number
   pub left : x ≡ runBuffers snapCall x₀ (callsIn encoded room)
   pub said : numbers ≡ runNumbers snapCall x₀ (callsIn encoded room) ++ replicate (room - callCount encoded room) 0
 
--- what the model says of a run from a start and a log of so many bytes: the buffers, and the number of every answer
-pub record ModelBytes (start : State) (size : ℕ) (encoded : List ℕ) (room : ℕ) (x : Buffers) (numbers : List ℕ) : Type 0 where
-  pub left : HistoryBytes start (modelHistory start size (callsIn encoded room)) x
-  pub said : numbers ≡ numbersIn (modelAnswers start size noHistory (callsIn encoded room)) (room - callCount encoded room)
+-- what the paper bench says of a run from a start and a log of so many bytes: the buffers, and the number of every answer
+pub record HistoryRun (start : State) (size : ℕ) (encoded : List ℕ) (room : ℕ) (x : Buffers) (numbers : List ℕ) : Type 0 where
+  pub left : HistoryBytes start (historyOf start size (callsIn encoded room)) x
+  pub said : numbers ≡ numbersIn (historyAnswers start size noHistory (callsIn encoded room)) (room - callCount encoded room)
 
 -- after the start of the log nothing is changed, and every call answers 20
 pub record Untouched (encoded : List ℕ) (room : ℕ) (x₀ x : Buffers) (numbers : List ℕ) : Type 0 where
@@ -63,9 +63,9 @@ pub record Untouched (encoded : List ℕ) (room : ℕ) (x₀ x : Buffers) (numbe
   pub said : numbers ≡ replicate (callCount encoded room) badHeader ++ replicate (room - callCount encoded room) 0
 
 -- The promise of `serve`, with room for so many numbers; r calls are made. On every input the calls' own answers on a log just started; from
--- the header of any valid machine and an area of 131,072 bytes the model's; from bytes that are no valid machine's header nothing but 20.
+-- the header of any valid machine and an area of 131,072 bytes the paper bench's; from bytes that are no valid machine's header nothing but 20.
 pub record Serves (head area log encoded : List ℕ) (room r : ℕ) (x : Buffers) (numbers : List ℕ) : Type 0 where
   pub count : r ≡ callCount encoded room
   pub ran : RanBytes encoded room (startedBuffers head area (length log)) x numbers
-  pub claim : (m : Machine) → HeaderFor m head → length area ≡ 131072 → ModelBytes (record { machine = m; memory = area }) (length log) encoded room x numbers
+  pub claim : (m : Machine) → HeaderFor m head → length area ≡ 131072 → HistoryRun (record { machine = m; memory = area }) (length log) encoded room x numbers
   pub not-ours : ((m : Machine) → HeaderFor m head → ⊥) → Untouched encoded room (startedBuffers head area (length log)) x numbers

@@ -1,6 +1,6 @@
 // One call of the correction log, by the function that a C program calls.
 use five_calls::Call;
-ghost use Rattle.journal_bytes.specs.Calls.{buffers};
+ghost use Rattle.journal_bytes.specs.Calls.{buffersIn, buffersOut};
 ghost use Rattle.server_calls.specs.Made.{CallMade};
 
 // One call, by the exported function. Refused, nothing is changed.
@@ -12,7 +12,7 @@ pub fn call_made(
     total: &mut u64,
     call: Call,
 ) -> u32
-    ensures { λ r. ⌜ CallMade call (buffers (now (head .entry)) (now (area .entry)) (now (log .entry)) (now (standing .entry)) (now (total .entry))) r (buffers (now (head .exit)) (now (area .exit)) (now (log .exit)) (now (standing .exit)) (now (total .exit))) ⌝ }
+    ensures { λ r. ⌜ CallMade call (buffersIn head area log standing total) r (buffersOut head area log standing total) ⌝ }
 {
     match call {
         Call::Byte(address, v) => {

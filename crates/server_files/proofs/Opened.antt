@@ -10,7 +10,7 @@ use Rattle.z80file.proofs.File.{read-start}
 use Rattle.file_bytes.specs.Files.{ReadBytes, readOfBytes, ReadsBytes}
 use Rattle.journal_bytes.specs.Calls.{Buffers}
 use Rattle.file_bytes.proofs.Accepted.{read-0}
-use Rattle.server.specs.Server.{startedBuffers, RanBytes, ModelBytes, Serves}
+use Rattle.server.specs.Server.{startedBuffers, RanBytes, HistoryRun, Serves}
 use Rattle.server_files.specs.Opened.{ServesFile}
 
 pub file-serves : (file : List ℕ) (n k : ℕ) (head area log b : List ℕ) (room r c : ℕ) (x : Buffers) (numbers : List ℕ) → ((i : ℕ) → getD file i 0 < 256)
@@ -26,6 +26,6 @@ file-serves file n k head area log b room r c x numbers fb p g =
           let ea : area ≡ o .memory = p .area ∙ ap (λ (y : ReadBytes). y .area) (q .1) in
           let f : HeaderFor (o .machine) head
           = record { valid = s .valid; typed = read-typed file n fb (q .0); is = p .header ∙ ap (λ (y : ReadBytes). y .header) (q .1) } in
-          subst (λ (w : List ℕ). ModelBytes (record { machine = o .machine; memory = w }) (length log) b room x numbers) ea
+          subst (λ (w : List ℕ). HistoryRun (record { machine = o .machine; memory = w }) (length log) b room x numbers) ea
           (g .claim (o .machine) f (ap length ea ∙ s .clean .long));
     }

@@ -1,9 +1,9 @@
 // Demand 3 of the functions that a C program calls, from a file that was opened.
 ghost use lib.ListN.{length};
-ghost use Rattle.journal_bytes.specs.Calls.{buffers};
+ghost use Rattle.journal_bytes.specs.Calls.{buffersOut};
 ghost use Rattle.server_files.specs.Opened.{ServesFile};
 
-// A file read by the exported function, then every call of a list: where the file is accepted, all is the model's from the machine and
+// A file read by the exported function, then every call of a list: where the file is accepted, all is the paper bench's from the machine and
 // memory that it gives.
 pub fn serve_file(
     file: &[u8],
@@ -15,7 +15,7 @@ pub fn serve_file(
     calls: &[u8],
     numbers: &mut [u8],
 ) -> u32
-    ensures { λ r. ⌜ ServesFile (now (file .entry)) (length (now (area .entry))) (length (now (head .entry))) (now (log .entry)) (now (calls .entry)) (length (now (numbers .entry))) r (buffers (now (head .exit)) (now (area .exit)) (now (log .exit)) (now (standing .exit)) (now (total .exit))) (now (numbers .exit)) ⌝ }
+    ensures { λ r. ⌜ ServesFile (now (file .entry)) (length (now (area .entry))) (length (now (head .entry))) (now (log .entry)) (now (calls .entry)) (length (now (numbers .entry))) r (buffersOut head area log standing total) (now (numbers .exit)) ⌝ }
 {
     let answer = snapshot::snap_z80_read(file, area, head);
     server::serve(head, area, log, standing, total, calls, numbers);

@@ -4,7 +4,7 @@ ghost use mathlib.Core.Path.{_≡_};
 ghost use lib.ListN.{length};
 ghost use Rattle.five_calls.specs.declared.Call.the-variants.{Byte, Pair, Out, Undo, Redo};
 ghost use Rattle.file_bytes.specs.Files.{readOfBytes, ReadsBytes, writeOfBytes, WritesBytes};
-ghost use Rattle.journal_bytes.specs.Calls.{buffers, snapCall, CallLeaves, LogStarts};
+ghost use Rattle.journal_bytes.specs.Calls.{buffersIn, buffersOut, snapCall, CallLeaves, LogStarts};
 ghost use Rattle.view_bytes.specs.Views.{Shows, showOf};
 ghost use Rattle.machine_bytes.specs.Looks.{modelOf, TellsModel, pairOf, TellsPair, addressOf, TellsPlace};
 ghost use Rattle.version_number.specs.Version.{libraryVersion};
@@ -98,7 +98,7 @@ pub extern "C" fn snap_correct_byte(
     address: u16,
     value: u8,
 ) -> u32
-    ensures { λ r. ⌜ CallLeaves (snapCall (Byte address value) (buffers (now (head .entry)) (now (area .entry)) (now (log .entry)) (now (standing .entry)) (now (total .entry)))) r (buffers (now (head .exit)) (now (area .exit)) (now (log .exit)) (now (standing .exit)) (now (total .exit))) ⌝ }
+    ensures { λ r. ⌜ CallLeaves (snapCall (Byte address value) (buffersIn head area log standing total)) r (buffersOut head area log standing total) ⌝ }
 {
     journal_bytes::call(head, area, log, standing, total, Call::Byte(address, value))
 }
@@ -114,7 +114,7 @@ pub extern "C" fn snap_correct_pair(
     pair: u8,
     value: u16,
 ) -> u32
-    ensures { λ r. ⌜ CallLeaves (snapCall (Pair pair value) (buffers (now (head .entry)) (now (area .entry)) (now (log .entry)) (now (standing .entry)) (now (total .entry)))) r (buffers (now (head .exit)) (now (area .exit)) (now (log .exit)) (now (standing .exit)) (now (total .exit))) ⌝ }
+    ensures { λ r. ⌜ CallLeaves (snapCall (Pair pair value) (buffersIn head area log standing total)) r (buffersOut head area log standing total) ⌝ }
 {
     journal_bytes::call(head, area, log, standing, total, Call::Pair(pair, value))
 }
@@ -129,7 +129,7 @@ pub extern "C" fn snap_correct_out(
     total: &mut u64,
     value: u8,
 ) -> u32
-    ensures { λ r. ⌜ CallLeaves (snapCall (Out value) (buffers (now (head .entry)) (now (area .entry)) (now (log .entry)) (now (standing .entry)) (now (total .entry)))) r (buffers (now (head .exit)) (now (area .exit)) (now (log .exit)) (now (standing .exit)) (now (total .exit))) ⌝ }
+    ensures { λ r. ⌜ CallLeaves (snapCall (Out value) (buffersIn head area log standing total)) r (buffersOut head area log standing total) ⌝ }
 {
     journal_bytes::call(head, area, log, standing, total, Call::Out(value))
 }
@@ -143,7 +143,7 @@ pub extern "C" fn snap_undo(
     standing: &mut u64,
     total: &mut u64,
 ) -> u32
-    ensures { λ r. ⌜ CallLeaves (snapCall Undo (buffers (now (head .entry)) (now (area .entry)) (now (log .entry)) (now (standing .entry)) (now (total .entry)))) r (buffers (now (head .exit)) (now (area .exit)) (now (log .exit)) (now (standing .exit)) (now (total .exit))) ⌝ }
+    ensures { λ r. ⌜ CallLeaves (snapCall Undo (buffersIn head area log standing total)) r (buffersOut head area log standing total) ⌝ }
 {
     journal_bytes::call(head, area, log, standing, total, Call::Undo)
 }
@@ -157,7 +157,7 @@ pub extern "C" fn snap_redo(
     standing: &mut u64,
     total: &mut u64,
 ) -> u32
-    ensures { λ r. ⌜ CallLeaves (snapCall Redo (buffers (now (head .entry)) (now (area .entry)) (now (log .entry)) (now (standing .entry)) (now (total .entry)))) r (buffers (now (head .exit)) (now (area .exit)) (now (log .exit)) (now (standing .exit)) (now (total .exit))) ⌝ }
+    ensures { λ r. ⌜ CallLeaves (snapCall Redo (buffersIn head area log standing total)) r (buffersOut head area log standing total) ⌝ }
 {
     journal_bytes::call(head, area, log, standing, total, Call::Redo)
 }

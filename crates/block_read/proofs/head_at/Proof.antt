@@ -1,4 +1,4 @@
-use Rattle.block_read.proofs.Heads.{page-small, short, cut, nowhere, twice, holds}
+use Rattle.block_read.proofs.Heads.{page-small, head-short, head-cut, head-nowhere, head-twice, head-data}
 use borrow.Author.Needs.{needs}
 use Rattle.block_read.proofs.head_at.Statement.{statement}
 use Rattle.block_read.proofs.head_at.Tie as tie
@@ -7,7 +7,7 @@ sub-left : tie.Need-sub-left
 sub-left c = search needs
 
 returns : tie.Need-returns
-returns c = search short
+returns c = search head-short
 
 shared-slice-read-word-of : tie.Need-shared-slice-read-word-of
 shared-slice-read-word-of c = search needs
@@ -34,7 +34,7 @@ size-of-requires : tie.Need-size-of-requires
 size-of-requires c κs = search needs
 
 returns-2 : tie.Need-returns-2
-returns-2 c = search cut
+returns-2 c = search head-cut
 
 page-of-requires : tie.Need-page-of-requires
 page-of-requires c κs = search needs
@@ -49,7 +49,7 @@ array-read-twice : tie.Need-array-read-twice
 array-read-twice c = search page-small
 
 returns-3 : tie.Need-returns-3
-returns-3 c = search twice
+returns-3 c = search head-twice
 
 add-start : tie.Need-add-start
 add-start c = search needs
@@ -58,10 +58,13 @@ add-end : tie.Need-add-end
 add-end c = search needs
 
 returns-4 : tie.Need-returns-4
-returns-4 c = search nowhere
+returns-4 c = search head-nowhere
 
 returns-5 : tie.Need-returns-5
-returns-5 c = search holds
+returns-5 c =
+    let b = c .before .before .before .before in
+    head-data _ _ _ _ (b .before .before .before .before .word-of .result) (b .before .before .size-of .result) (search needs) (search needs) (search needs)
+    (b .page-of .result) _ (search needs) (search needs) (search needs) (search needs)
 
 pub head-at-spec : {M : Type 1} → statement M
 head-at-spec =
