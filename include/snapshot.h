@@ -1,9 +1,9 @@
 /*
  * snapshot.h: saved Spectrums (.Z80 files) read, viewed, corrected and written.
  *
- * Answers: every function but snap_version and snap_sentence answers a number of `enum snap_number`, SNAP_ACCEPTED (0) or why it refused. None
- * trusts its caller: each takes every length and every byte, and every byte of the buffers lent to it is settled when it
- * returns, refused or not.
+ * Answers: every function but snap_version and snap_sentence answers a number of `enum snap_number`, SNAP_ACCEPTED (0) or
+ * why it refused. None trusts its caller: each takes every length and every byte, and every byte of the buffers lent to it
+ * is settled when it returns, refused or not.
  *
  * Stack: no call uses more than SNAP_STACK_MOST bytes. A program that is not linked with -z now needs some more for the
  * dynamic linker, which binds a function (these, and memcpy and memset) at its first call.
@@ -137,7 +137,8 @@ enum snap_number {
     SNAP_UNPACKED_LENGTH = 12,
     SNAP_BLOCK_MISSING = 13,
     SNAP_END_MARKER = 14,
-    /* every other call; 20 also when reading is lent a header buffer of another length */
+    /* every other call that is lent a machine, 21 where it is lent its memory too; 20 also when reading is lent a header
+       buffer of another length */
     SNAP_INVALID_MACHINE = 20,
     SNAP_MEMORY_LENGTH = 21,
     /* writing */
@@ -153,7 +154,7 @@ enum snap_number {
     /* viewing */
     SNAP_PAGE_NOT_OWNED = 30,
     SNAP_ROM_LENGTH = 31,
-    /* correcting a register pair */
+    /* a register pair told or corrected */
     SNAP_PAIR_NUMBER = 32
 };
 

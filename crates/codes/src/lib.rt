@@ -6,8 +6,8 @@ ghost use Rattle.flags.specs.Places.{Flagged, Ahead};
 ghost use Rattle.packed.specs.Packed.{escape};
 ghost use Rattle.codes.specs.Inner.{escapeAt, Looked, Copied16};
 
-// Flags for ED ED from i on: `seen`, while the next is near, or 64 new ones. The bytes of src before the next ED ED are
-// stored into dst from o on.
+// Flags for ED ED from i on: `seen`, while the next is near, or 64 new ones. 16 or 64 bytes of src are stored into dst from o
+// on, those before the next ED ED among them.
 pub fn look(src: &[u8], i: usize, dst: &mut [u8], o: usize, seen: u64) -> u64
     requires { ⌜ (i + 65 ≤ length (now src)) × ((o + 64 ≤ length (now dst)) × Ahead (escapeAt (now src)) i seen) ⌝ }
     ensures { λ r. ⌜ Looked (now (src .entry)) i (now (dst .entry)) o seen r (now (dst .exit)) ⌝ }

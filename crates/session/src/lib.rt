@@ -12,7 +12,7 @@ pub struct Counts {
     pub total: usize,
 }
 
-// What a call gives beside memory and log. The machine stands first, for the reason given at `DecodedHeader`.
+// What a call gives beside memory and log. The machine stands first, for the reason given at `DecodedHeader` of header_canonical.
 pub struct Done {
     pub machine: Machine,
     pub counts: Counts,

@@ -10,7 +10,7 @@ same-length : tie.Need-same-length
 same-length c = search needs
 
 returns : tie.Need-returns
-returns c = search top-cleared
+returns c = top-cleared _ _ (c .before .before .clear-from .ensures)
 
 pub clear-top-spec : {M : Type 1} → statement M
 clear-top-spec = tie.close (tie.spec clear-from-requires same-length returns)
