@@ -21,12 +21,12 @@ TO = $(DESTDIR)$(PREFIX)
 .PHONY: help demo test lib tool examples install uninstall samples bench fuzz soak fmt clean
 
 help:
-	@echo 'make demo                sets up and shows the main job; the first time it takes about five minutes'
+	@echo 'make demo                sets up and shows the main job; five minutes at first'
 	@echo 'make test                the gate: proves everything, then runs and compares'
 	@echo 'make lib                 the library for C, proved and then compiled'
 	@echo 'make tool                the library and the tool'
 	@echo 'make examples            the programs of examples/'
-	@echo 'make install PREFIX=..   the library, its header and manual pages, and the tool; DESTDIR is honoured'
+	@echo 'make install PREFIX=..   library, header, tool and pages; DESTDIR is honoured'
 	@echo 'make uninstall PREFIX=.. removes what install put there'
 	@echo 'make samples             the sample files from their sources'
 	@echo 'make bench               speed, as ratios'
@@ -63,7 +63,7 @@ target/$(SHARED): $(LIB) include/snapshot.map include/snapshot.h
 	$(CC) -shared $(LDFLAGS) -Wl,-z,now -Wl,-soname,$(SONAME) -Wl,--version-script=include/snapshot.map \
 		-Wl,--whole-archive $(LIB) -Wl,--no-whole-archive -o $@
 
-# The pkg-config file begins with the prefix, whatever characters it has.
+# The prefix may have spaces in it, but no quotes and no dollar signs. The pkg-config file begins with it.
 install: tool target/$(SHARED)
 	printf 'prefix=%s\n' "$$(realpath -ms -- "$(PREFIX)")" > target/snapshot.pc
 	sed 's/@VERSION@/$(VERSION)/' include/snapshot.pc.in >> target/snapshot.pc

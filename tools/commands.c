@@ -36,6 +36,8 @@ struct run {
     (s)->opened.header, sizeof (s)->opened.header, (s)->opened.area, sizeof (s)->opened.area, \
     (s)->log.steps, sizeof (s)->log.steps, &(s)->log.standing, &(s)->log.total
 
+static const char an_address[] = "address, 0 to FFFF", a_byte[] = "value from 0 to FF";
+
 /* The line is not of the form that its command has. */
 static enum status wrong(const struct run *run)
 {
@@ -45,6 +47,12 @@ static enum status wrong(const struct run *run)
 static const char *word(const struct run *run, unsigned at)
 {
     return run->line.words[at].text;
+}
+
+/* A word is not what the form has in its place. */
+static enum status wrong_word(const struct run *run, unsigned at, const char *expected)
+{
+    return misused("%s: '%s' is no %s; %s", run->place, shown_in_short(word(run, at)), expected, run->form);
 }
 
 /* After a call: what was done, or the refusal. */
@@ -83,10 +91,10 @@ static enum status do_byte(const struct run *run)
     unsigned long address, value;
     unsigned count = run->line.count - 2;
     if (!take_hex(word(run, 1), 0xFFFF, &address))
-        return wrong(run);
+        return wrong_word(run, 1, an_address);
     for (unsigned at = 0; at < count; at++) {
         if (!take_hex(word(run, at + 2), 0xFF, &value))
-            return wrong(run);
+            return wrong_word(run, at + 2, a_byte);
         bytes[at] = (uint8_t)value;
     }
     return correct_bytes(run, address, bytes, count);
@@ -97,7 +105,9 @@ static enum status do_text(const struct run *run)
     unsigned long address;
     const char *text = word(run, 2);
     size_t length = strlen(text);
-    if (!take_hex(word(run, 1), 0xFFFF, &address) || !run->line.words[2].quoted || length == 0)
+    if (!take_hex(word(run, 1), 0xFFFF, &address))
+        return wrong_word(run, 1, an_address);
+    if (!run->line.words[2].quoted || length == 0)
         return wrong(run);
     for (size_t at = 0; at < length; at++)
         if (text[at] < 32 || text[at] > 126)
@@ -111,8 +121,10 @@ static enum status do_pair(const struct run *run)
     unsigned pair = 0;
     while (pair < SNAP_PAIRS && strcasecmp(word(run, 1), pair_names[pair]) != 0)
         pair++;
-    if (pair == SNAP_PAIRS || !take_hex(word(run, 2), 0xFFFF, &value))
-        return wrong(run);
+    if (pair == SNAP_PAIRS)
+        return wrong_word(run, 1, "register pair");
+    if (!take_hex(word(run, 2), 0xFFFF, &value))
+        return wrong_word(run, 2, "value from 0 to FFFF");
     return corrected(run, snap_correct_pair(LENT(run->session), (uint8_t)pair, (uint16_t)value));
 }
 
@@ -120,8 +132,17 @@ static enum status do_out(const struct run *run)
 {
     unsigned long value;
     if (!take_hex(word(run, 1), 0xFF, &value))
-        return wrong(run);
+        return wrong_word(run, 1, a_byte);
     return corrected(run, snap_correct_out(LENT(run->session), (uint8_t)value));
+}
+
+/* More are asked for than stand, or wait: the refusal says how many do. */
+static enum status too_few(const struct run *run, bool back, unsigned count)
+{
+    char hint[HINT_SIZE] = "";
+    if (count > 0)
+        snprintf(hint, sizeof hint, "%u %s%s", count, back ? "stand" : "wait", count == 1 ? "s" : "");
+    return refused_with_hint(run->place, SNAP_NOTHING_TO_MOVE, hint);
 }
 
 /* Undo or redo, as many times as the line says, if there are so many. */
@@ -130,10 +151,11 @@ static enum status move(const struct run *run, bool back)
     struct session *session = run->session;
     unsigned long count = 1;
     if (run->line.count == 2 && !take_decimal(word(run, 1), SNAP_LOG_STEPS, &count))
-        return wrong(run);
+        return wrong_word(run, 1, "count up to 4096");
     const struct log *log = &session->log;
-    if (count > (back ? log->standing : log->total - log->standing))
-        return refused(run->place, SNAP_NOTHING_TO_MOVE);
+    uint64_t there = back ? log->standing : log->total - log->standing;
+    if (count > there)
+        return too_few(run, back, (unsigned)there);
     enum status status = ACCEPTED;
     for (; count > 0 && status == ACCEPTED; count--) {
         uint32_t number = back ? snap_undo(LENT(session)) : snap_redo(LENT(session));
@@ -173,8 +195,9 @@ static enum status do_info(const struct run *run)
 static enum status do_view(const struct run *run)
 {
     struct part part;
-    if (!take_part(word(run, 1), &part))
-        return wrong(run);
+    const char *unreadable = take_part(word(run, 1), &part);
+    if (unreadable != NULL)
+        return misused("%s: '%s' %s", run->place, shown_in_short(word(run, 1)), unreadable);
     return print_part(stdout, run->place, run->session->words->file, &run->session->opened, &part, NULL);
 }
 
@@ -251,5 +274,5 @@ enum status run_line(struct session *session, const char *place, char *text)
         run.form = command->form;
         return run.line.count < command->least || run.line.count > command->most ? wrong(&run) : command->run(&run);
     }
-    return misused("%s: there is no such command; see 'help'", place);
+    return misused("%s: there is no command '%s'; see 'help'", place, shown_in_short(word(&run, 0)));
 }

@@ -1,6 +1,7 @@
 /* edit.c: an editing session, from the prompt or from a script, which ends at the first line that is refused. */
 #define _POSIX_C_SOURCE 200809L
 #include <string.h>
+#include <sys/stat.h>
 #include <unistd.h>
 
 #include "tool.h"
@@ -56,7 +57,7 @@ static enum status from_script(FILE *from, const char *name)
     unsigned count = session.unsaved;
     if (count == 0 || (status == ACCEPTED && session.ended))
         return status;
-    warn(name, "%s%u correction%s since the last save %s dropped", status == ACCEPTED ? "ends without 'save': " : "", count,
+    warn(name, "%s%u change%s since the last save %s dropped", status == ACCEPTED ? "ends without 'save': " : "", count,
          count == 1 ? "" : "s", count == 1 ? "is" : "are");
     return status == ACCEPTED ? USAGE : status;
 }
@@ -64,7 +65,10 @@ static enum status from_script(FILE *from, const char *name)
 static enum status from_file(const char *script)
 {
     static uint8_t text[SCRIPT_MOST + 1];
+    struct stat about;
     size_t length;
+    if (stat(script, &about) == 0 && !S_ISREG(about.st_mode) && !S_ISDIR(about.st_mode))
+        return cannot(script, "is a pipe or a device, not a file; '--script -' reads standard input");
     enum status status = read_bounded(script, text, SCRIPT_MOST, &length);
     if (status == ACCEPTED)
         status = check_text(script, (const char *)text, length, true);

@@ -1,6 +1,14 @@
 /* json.c: a file, or why it is not accepted, as JSON; numbers in decimal. */
 #include "tool.h"
 
+static unsigned code_of(const unsigned char *s, unsigned length)
+{
+    unsigned code = length == 1 ? s[0] : s[0] & 0x7Fu >> length;
+    for (unsigned at = 1; at < length; at++)
+        code = code << 6 | (s[at] & 0x3Fu);
+    return code;
+}
+
 static void print_string(FILE *to, const char *string)
 {
     const unsigned char *s = (const unsigned char *)string;
@@ -11,8 +19,8 @@ static void print_string(FILE *to, const char *string)
             fputs("\\ufffd", to);
         else if (*s == '"' || *s == '\\')
             fprintf(to, "\\%c", *s);
-        else if (*s < 32 || *s == 127)
-            fprintf(to, "\\u%04x", *s);
+        else if (is_control_character(s, length))
+            fprintf(to, "\\u%04x", code_of(s, length));
         else
             fwrite(s, 1, length, to);
         s += length == 0 ? 1 : length;

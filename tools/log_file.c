@@ -35,9 +35,10 @@ static uint32_t log_sum(const uint8_t *file, size_t length)
     return (uint32_t)crc32(sum, file + HEAD, (uInt)(length - HEAD));
 }
 
-bool is_log(const uint8_t *file, size_t length)
+enum status check_log(const char *name, const uint8_t *file, size_t length)
 {
-    return length >= HEAD && length <= LOG_FILE_MOST && memcmp(file, mark, sizeof mark) == 0;
+    bool log = length >= HEAD && length <= LOG_FILE_MOST && memcmp(file, mark, sizeof mark) == 0;
+    return log || length == 0 ? ACCEPTED : cannot(name, "is not a correction log; --log names another file");
 }
 
 static bool is_whole(const uint8_t *file, size_t length)
@@ -60,14 +61,15 @@ enum status load_log(const char *path, const struct opened *opened, bool strict,
     if (!exists(path))
         return ACCEPTED;
     enum status status = read_bounded(path, kept, LOG_FILE_MOST, &length);
-    if (status != ACCEPTED)
+    if (status == ACCEPTED)
+        status = check_log(path, kept, length);
+    if (status != ACCEPTED || length == 0)
         return status;
-    if (!is_log(kept, length))
-        return cannot(path, "is not a correction log");
-    if (!is_whole(kept, length) || take_u32(kept + 16) != machine_sum(opened)) {
+    bool whole = is_whole(kept, length);
+    if (!whole || take_u32(kept + 16) != machine_sum(opened)) {
         if (strict)
             return refused(path, SNAP_STEP_DAMAGED);
-        warn(path, "belongs to something else; a new log is started");
+        warn(path, "%s; a new log is started", whole ? "belongs to something else" : "is damaged");
         return ACCEPTED;
     }
     log->standing = take_u32(kept + 8);

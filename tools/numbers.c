@@ -5,10 +5,15 @@
 
 #include "tool.h"
 
+const char *after_hex_mark(const char *text)
+{
+    return text + (strncasecmp(text, "0x", 2) == 0 ? 2 : text[0] == '$' || text[0] == '#' ? 1 : 0);
+}
+
 bool take_hex(const char *text, unsigned long most, unsigned long *value)
 {
     char *end;
-    text += strncasecmp(text, "0x", 2) == 0 ? 2 : text[0] == '$' || text[0] == '#' ? 1 : 0;
+    text = after_hex_mark(text);
     if (strspn(text, "0123456789abcdefABCDEF") == 0 || strlen(text) > 8)
         return false;
     *value = strtoul(text, &end, 16);

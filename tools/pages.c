@@ -25,6 +25,8 @@ enum status page_bytes(const char *file, const struct opened *opened, unsigned l
     uint64_t start, length;
     uint32_t answer = snap_view(opened->header, sizeof opened->header, rom, rom_length, opened->area,
                                 sizeof opened->area, number, &in_rom, &start, &length);
+    if (answer == SNAP_PAGE_NOT_OWNED && page > 9)
+        return refused_with_hint(file, answer, "pages are 0 to 9; addresses are a range, as in 4000..40FF");
     if (answer != SNAP_ACCEPTED)
         return refused(answer == SNAP_ROM_LENGTH && rom_file != NULL ? rom_file : file, answer);
     if (in_rom && rom_file == NULL)

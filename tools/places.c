@@ -31,7 +31,7 @@ static enum status new_target(const char *name, char target[PATH_ROOM])
     if (snprintf(folder, sizeof folder, "%.*s", (int)(last - name), name) >= (int)sizeof folder)
         return cannot(name, "the name is too long");
     if (realpath(slash == NULL ? "." : folder, target) == NULL)
-        return cannot_errno(name, "cannot be written");
+        return cannot_write(name);
     size_t length = strlen(target), room = PATH_ROOM - length;
     if (snprintf(target + length, room, "%s%s", length > 1 ? "/" : "", last) >= (int)room)
         return cannot(name, "the name is too long");
@@ -43,7 +43,7 @@ static enum status check_regular(const char *name, const char *target)
 {
     struct stat about;
     if (stat(target, &about) != 0)
-        return errno == ENOENT ? ACCEPTED : cannot_errno(name, "cannot be written");
+        return errno == ENOENT ? ACCEPTED : cannot_write(name);
     if (S_ISREG(about.st_mode))
         return ACCEPTED;
     return cannot(name, S_ISDIR(about.st_mode) ? "is a directory" : "is a pipe or a device, not a file");
@@ -56,7 +56,7 @@ enum status target_of(const char *name, char target[PATH_ROOM])
         return cannot("''", "cannot be written: the name is empty");
     if (realpath(name, target) == NULL) {
         if (errno != ENOENT)
-            return cannot_errno(name, "cannot be written");
+            return cannot_write(name);
         if (lstat(name, &about) == 0)
             return cannot(name, "cannot be written: it is a link that leads to nothing");
         return new_target(name, target);
@@ -125,8 +125,8 @@ static bool may_write(const char *target)
 
 static enum status check_kind(const char *name, enum kind kind, bool force)
 {
-    if (kind == LOG_FILE && !is_log(seen, seen_length))
-        return cannot(name, "is not a correction log");
+    if (kind == LOG_FILE)
+        return check_log(name, seen, seen_length);
     if (kind == SNAPSHOT_FILE && !force && !is_snapshot())
         return cannot(name, "is there and is no snapshot; only --force replaces it");
     if (kind == PICTURE_FILE && !force && !is_picture())
@@ -151,7 +151,7 @@ enum status check_target(const char *name, const char *target, enum kind kind, b
     char folder[PATH_ROOM];
     folder_of(target, folder);
     if (faccessat(AT_FDCWD, folder, W_OK | X_OK, AT_EACCESS) != 0)
-        return cannot_errno(name, "cannot be written");
+        return cannot_write(name);
     if (!may_rename_over(folder, target))
         return cannot(name, "cannot be written: it is another user's, in a folder where only owners replace files");
     enum status status = check_regular(name, target);

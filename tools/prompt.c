@@ -55,6 +55,8 @@ static void begin(void)
     setlocale(LC_CTYPE, "C.UTF-8");
     begin_completion();
     load_history();
+    /* an answer is seen before the next prompt, through a pipe too */
+    setvbuf(stdout, NULL, _IOLBF, 0);
 }
 
 /* A line; NULL at the end of input. Where it was interrupted it is dropped. */
@@ -81,7 +83,7 @@ static void run_typed(struct session *session, char *line)
     run_line(session, session->words->file, line);
 }
 
-/* A quit with corrections that are not saved is warned, unless the line before was a quit that was. */
+/* A quit with changes that are not saved is warned, unless the line before was a quit that was. */
 enum status from_prompt(struct session *session)
 {
     bool warned = false;
@@ -98,7 +100,7 @@ enum status from_prompt(struct session *session)
         free(line);
         bool warn_now = session->ended && session->unsaved > 0 && !warned;
         if (warn_now) {
-            warn(session->words->file, "%u correction%s not saved: 'save', or 'quit' again", session->unsaved,
+            warn(session->words->file, "%u change%s not saved: 'save', or 'quit' again", session->unsaved,
                  session->unsaved == 1 ? " is" : "s are");
             session->ended = false;
         }

@@ -11,15 +11,17 @@ static bool take_address(const char *text, size_t length, unsigned long *address
     return snprintf(word, sizeof word, "%.*s", (int)length, text) < (int)sizeof word && take_hex(word, 0xFFFF, address);
 }
 
-bool take_part(const char *text, struct part *part)
+const char *take_part(const char *text, struct part *part)
 {
+    static const char neither[] = "is neither a page, as in 5, nor a range of addresses, as in 4000..57FF";
     const char *dots = strstr(text, "..");
     part->is_range = dots != NULL;
     if (dots == NULL) {
         /* a number that is too long for strtoul becomes its greatest, which is no page */
         part->page = strtoul(text, NULL, 10);
-        return text[0] != 0 && text[strspn(text, "0123456789")] == 0;
+        return text[0] != 0 && text[strspn(text, "0123456789")] == 0 ? NULL : neither;
     }
-    return take_address(text, (size_t)(dots - text), &part->first) && take_address(dots + 2, strlen(dots + 2), &part->last)
-        && part->first <= part->last;
+    if (!take_address(text, (size_t)(dots - text), &part->first) || !take_address(dots + 2, strlen(dots + 2), &part->last))
+        return neither;
+    return part->first <= part->last ? NULL : "is no range of addresses: the first is above the last";
 }

@@ -24,8 +24,7 @@ unsigned character_length(const unsigned char *s)
     return more + 1;
 }
 
-/* Whether a character ends a line, moves the cursor or turns the direction of what follows. */
-static bool is_control(const unsigned char *s, unsigned length)
+bool is_control_character(const unsigned char *s, unsigned length)
 {
     switch (length) {
     case 1: return s[0] < 32 || s[0] == 127;
@@ -37,20 +36,34 @@ static bool is_control(const unsigned char *s, unsigned length)
     }
 }
 
-const char *shown(const char *name)
+/* A text as it can be shown, cut where so many characters are reached. */
+static const char *show(const char *name, size_t most)
 {
     static char texts[4][4 * PATH_ROOM];
     static unsigned turn;
     const unsigned char *s = (const unsigned char *)name;
-    char *text = texts[turn++ % 4], *to = text, *most = text + sizeof texts[0] - 20;
-    while (*s != 0 && to < most) {
+    char *text = texts[turn++ % 4], *to = text, *end = text + sizeof texts[0] - 20;
+    for (size_t columns = 0; *s != 0 && to < end;) {
         unsigned length = character_length(s), count = length == 0 ? 1 : length;
-        bool plain = length != 0 && !is_control(s, length);
+        bool plain = length != 0 && !is_control_character(s, length);
+        columns += plain ? 1 : 4 * count;
+        if (columns > most)
+            break;
         for (; count > 0; count--, s++)
             to += snprintf(to, 5, plain ? "%c" : "\\x%02X", *s);
     }
-    snprintf(to, 4, "%s", name[0] == 0 ? "''" : *s == 0 ? "" : "...");
+    snprintf(to, 4, "%s", *s == 0 ? "" : "...");
     return text;
+}
+
+const char *shown(const char *name)
+{
+    return name[0] == 0 ? "''" : show(name, SIZE_MAX);
+}
+
+const char *shown_in_short(const char *text)
+{
+    return show(text, 40);
 }
 
 /* What is printed goes out first, so that both streams in one file are in order. */
@@ -72,6 +85,14 @@ enum status refused(const char *file, uint32_t number)
     return REFUSED;
 }
 
+enum status refused_with_hint(const char *file, uint32_t number, const char *hint)
+{
+    if (hint[0] == 0)
+        return refused(file, number);
+    warn(file, "refused, %u: %s (%s)", (unsigned)number, snap_sentence(number), hint);
+    return REFUSED;
+}
+
 enum status cannot(const char *file, const char *sentence)
 {
     warn(file, "%s", sentence);
@@ -82,6 +103,11 @@ enum status cannot_errno(const char *file, const char *doing)
 {
     warn(file, "%s: %s", doing, strerror(errno));
     return SYSTEM;
+}
+
+enum status cannot_write(const char *file)
+{
+    return cannot_errno(file, errno == EACCES ? "cannot be written: its folder" : "cannot be written");
 }
 
 enum status misused(const char *format, ...)

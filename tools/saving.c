@@ -27,14 +27,14 @@ static bool write_all(int to, const uint8_t *bytes, size_t length)
     return true;
 }
 
-/* The owner, group and permissions of what is replaced, or those of a new file. Where they cannot be set, as on a FAT disk
-   or by another user, they stay as they are made. Set-id bits are not kept. */
-static void set_owner_and_permissions(int to, const char *target)
+/* The owner, group and permissions of a model, or where it is not there those of a new file. Where they cannot be set, as on
+   a FAT disk or by another user, they stay as they are made. Set-id bits are not kept. */
+static void set_owner_and_permissions(int to, const char *model)
 {
     struct stat about;
     mode_t mask = umask(0);
     umask(mask);
-    if (stat(target, &about) != 0) {
+    if (stat(model, &about) != 0) {
         fchmod(to, 0666 & ~mask);
         return;
     }
@@ -43,7 +43,15 @@ static void set_owner_and_permissions(int to, const char *target)
     fchmod(to, about.st_mode & 0777);
 }
 
-static enum status make_temporary(struct output *output)
+/* What is replaced; for a new log it is the snapshot that it is saved with. */
+static const char *model_of(const struct output *outputs, unsigned at)
+{
+    struct stat about;
+    bool new_log = at > 0 && outputs[at].kind == LOG_FILE && stat(outputs[at].target, &about) != 0;
+    return new_log ? outputs[0].temporary : outputs[at].target;
+}
+
+static enum status make_temporary(struct output *output, const char *model)
 {
     char folder[PATH_ROOM];
     folder_of(output->target, folder);
@@ -51,8 +59,8 @@ static enum status make_temporary(struct output *output)
         return cannot(output->name, "the name is too long");
     int to = mkstemp(output->temporary);
     if (to < 0)
-        return cannot_errno(output->name, "cannot be written");
-    set_owner_and_permissions(to, output->target);
+        return cannot_write(output->name);
+    set_owner_and_permissions(to, model);
     bool there = write_all(to, output->bytes, output->length) && fsync(to) == 0;
     int why = errno;
     if (close(to) != 0 && there) {
@@ -63,7 +71,7 @@ static enum status make_temporary(struct output *output)
         return ACCEPTED;
     unlink(output->temporary);
     errno = why;
-    return cannot_errno(output->name, "cannot be written");
+    return cannot_write(output->name);
 }
 
 /* False where another program keeps the lock; where a folder cannot be locked at all, as on some disks, it goes without. */
@@ -137,7 +145,7 @@ static enum status rename_all(struct output *outputs, unsigned count, struct kno
     for (unsigned at = 0; at < count; at++) {
         struct output *output = &outputs[at];
         if (rename(output->temporary, output->target) != 0) {
-            enum status status = cannot_errno(output->name, "cannot be written");
+            enum status status = cannot_write(output->name);
             if (at > 0)
                 warn(outputs[0].name, "is saved, but %s is still as it was", shown(output->name));
             return status;
@@ -179,7 +187,7 @@ enum status save_files(struct output *outputs, unsigned count, struct known **kn
     sigfillset(&all);
     sigprocmask(SIG_BLOCK, &all, &before);
     for (; made < count && status == ACCEPTED; made += status == ACCEPTED)
-        status = make_temporary(&outputs[made]);
+        status = make_temporary(&outputs[made], model_of(outputs, made));
     if (status == ACCEPTED)
         status = put_in_place(outputs, count, known);
     while (made-- > 0)

@@ -39,7 +39,7 @@ static enum status check_and_know(struct session *session, const char *name, enu
 static enum status check_places(struct session *session)
 {
     const char *output = session->words->output;
-    char log[PATH_ROOM], target[PATH_ROOM], log_target[PATH_ROOM];
+    char log[PATH_ROOM], target[PATH_ROOM], *log_target = session->log_target;
     enum status status = check_and_know(session, output, SNAPSHOT_FILE, target);
     if (status == ACCEPTED)
         status = log_name(session, output, log);
@@ -72,12 +72,16 @@ enum status begin_session(struct session *session, const struct edit_words *word
     return status;
 }
 
-/* Whether two names lead to one place, if there is a file or not. */
-static bool same_place(const char *one, const char *other)
+/* A name that is saved under is not the place of a log that --log names, if there is a file or not. */
+static enum status check_name(const struct session *session, const char *name)
 {
-    char first[PATH_ROOM], second[PATH_ROOM];
-    return same_file(one, other)
-        || (target_of(one, first) == ACCEPTED && target_of(other, second) == ACCEPTED && strcmp(first, second) == 0);
+    char target[PATH_ROOM];
+    if (session->words->log == NULL)
+        return ACCEPTED;
+    enum status status = target_of(name, target);
+    if (status == ACCEPTED && (strcmp(target, session->log_target) == 0 || same_file(target, session->log_target)))
+        return misused("%s: is the place of the log", name);
+    return status;
 }
 
 enum status save_session(struct session *session, const char *name, bool force)
@@ -85,9 +89,10 @@ enum status save_session(struct session *session, const char *name, bool force)
     static uint8_t file[SNAP_FILE_MOST], log_file[LOG_FILE_MOST];
     static struct output outputs[2];
     char log[PATH_ROOM];
-    if (name != NULL && session->words->log != NULL && same_place(name, session->words->log))
-        return misused("%s: is the place of the log", name);
-    enum status status = name != NULL ? log_beside_target(name, log) : log_name(session, session->words->output, log);
+    enum status status = name != NULL ? check_name(session, name) : ACCEPTED;
+    if (status != ACCEPTED)
+        return status;
+    status = name != NULL ? log_beside_target(name, log) : log_name(session, session->words->output, log);
     name = name != NULL ? name : session->words->output;
     force = force || session->words->force;
     outputs[0] = (struct output){.name = name, .kind = SNAPSHOT_FILE, .force = force, .bytes = file};

@@ -24,8 +24,9 @@ static enum status run_view(const struct words *words)
     const char *file = words->names[0], *rom = words->options[OPTION_ROM];
     bool raw = words->options[OPTION_RAW] != NULL;
     struct part part;
-    if (!take_part(words->names[1], &part))
-        return misused("'%s' is neither a page, as in 5, nor a range of addresses, as in 4000..57FF", words->names[1]);
+    const char *unreadable = take_part(words->names[1], &part);
+    if (unreadable != NULL)
+        return misused("'%s' %s", words->names[1], unreadable);
     enum status status = raw ? check_output("-") : ACCEPTED;
     if (status == ACCEPTED)
         status = open_to_look(file, &opened);
@@ -138,7 +139,7 @@ static void print_usage(FILE *to)
 {
     for (size_t at = 0; at < command_count; at++)
         print_form(to, &command_table[at]);
-    fputs("snapshot COMMAND --help, snapshot --help, snapshot --version\n"
+    fputs("snapshot help [COMMAND], snapshot [COMMAND] --help, snapshot --version\n"
           "FILE may be -, standard input; OUT may be -, standard output; not in edit.\n"
           "Exit status: 0 accepted, 1 refused, 2 wrong use, 3 system error.\n"
           "See snapshot(1).\n", to);
@@ -161,22 +162,44 @@ static enum status run_command(const struct command *command, int argc, char **a
     return ACCEPTED;
 }
 
+static enum status too_many(char **argv, unsigned at)
+{
+    return misused("'%s' is one name too many for 'snapshot %s'; see 'snapshot --help'", argv[at], argv[1]);
+}
+
+static enum status run_named(const char *name, int argc, char **argv)
+{
+    for (size_t at = 0; at < command_count; at++)
+        if (strcmp(name, command_table[at].name) == 0)
+            return run_command(&command_table[at], argc, argv);
+    return misused("there is no command '%s'; see 'snapshot --help'", name);
+}
+
+/* The help of the tool, or after `help` that of a command. */
+static enum status run_help(int argc, char **argv)
+{
+    char *words[] = {argv[2], "--help", NULL};
+    int most = strcmp(argv[1], "help") == 0 ? 3 : 2;
+    if (argc > most)
+        return too_many(argv, (unsigned)most);
+    if (argc == 3)
+        return run_named(argv[2], 2, words);
+    print_usage(stdout);
+    return ACCEPTED;
+}
+
 static enum status run(int argc, char **argv)
 {
     if (argc < 2)
         return misused("a command is missing; see 'snapshot --help'");
-    if (is_either(argv[1], "--help", "-h")) {
-        print_usage(stdout);
-        return ACCEPTED;
-    }
-    if (is_either(argv[1], "--version", "-V")) {
-        puts("snapshot " SNAPSHOT_VERSION);
-        return ACCEPTED;
-    }
-    for (size_t at = 0; at < command_count; at++)
-        if (strcmp(argv[1], command_table[at].name) == 0)
-            return run_command(&command_table[at], argc - 1, argv + 1);
-    return misused("there is no command '%s'; see 'snapshot --help'", argv[1]);
+    if (strcmp(argv[1], "help") == 0 || is_either(argv[1], "--help", "-h"))
+        return run_help(argc, argv);
+    if (!is_either(argv[1], "--version", "-V"))
+        return run_named(argv[1], argc - 1, argv + 1);
+    if (argc > 2)
+        return too_many(argv, 2);
+    puts("snapshot " SNAPSHOT_VERSION);
+    return ACCEPTED;
 }
 
 int main(int argc, char **argv)
@@ -185,6 +208,6 @@ int main(int argc, char **argv)
     signal(SIGXFSZ, SIG_IGN);
     enum status status = run(argc, argv);
     if (fflush(stdout) != 0 || ferror(stdout))
-        return cannot("standard output", "cannot be written");
+        return cannot_errno("standard output", "cannot be written");
     return status;
 }

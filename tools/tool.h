@@ -21,14 +21,22 @@ struct opened {
 
 /* report.c: a sentence on standard error; most answer the status that goes with it. */
 enum status refused(const char *file, uint32_t number);
+/* The hint comes in parentheses; an empty one is none. */
+enum status refused_with_hint(const char *file, uint32_t number, const char *hint);
 enum status cannot(const char *file, const char *sentence);
 enum status cannot_errno(const char *file, const char *doing);
+/* A permission that is missing before the file is reached is its folder's. */
+enum status cannot_write(const char *file);
 enum status misused(const char *format, ...);
 void warn(const char *file, const char *format, ...);
 /* A name as it can be shown on one line: control characters and what is no UTF-8 as \xNN. Four of them last at a time. */
 const char *shown(const char *name);
+/* A text so, cut after 40 characters. */
+const char *shown_in_short(const char *text);
 /* How many bytes at `s` make one well-formed UTF-8 character; 0 if they make none. */
 unsigned character_length(const unsigned char *s);
+/* Whether a well-formed character ends a line, moves the cursor or turns the direction of what follows. */
+bool is_control_character(const unsigned char *s, unsigned length);
 
 /* format.c: what the bytes of a .Z80 file say of themselves. */
 #define HINT_SIZE 200u
@@ -144,6 +152,7 @@ void print_json_error(FILE *to, const char *file, const char *sentence);
 unsigned bytes_not_zero(const struct opened *opened, unsigned page);
 
 /* numbers.c: numbers as people write them: hexadecimal with or without 0x, $ or # before it, and decimal. */
+const char *after_hex_mark(const char *text);
 bool take_hex(const char *text, unsigned long most, unsigned long *value);
 bool take_decimal(const char *text, unsigned long most, unsigned long *value);
 
@@ -152,7 +161,8 @@ struct part {
     bool is_range;
     unsigned long page, first, last;
 };
-bool take_part(const char *text, struct part *part);
+/* Answers NULL, or what is wrong with the text. */
+const char *take_part(const char *text, struct part *part);
 
 /* view.c: a page or a range as hex and text, or as it is; rom as above. */
 /* `place` is what a refusal is told of. */
@@ -171,6 +181,9 @@ void print_columns(FILE *to, const struct span *span, long start, int columns);
 struct sought {
     const uint8_t *bytes;
     size_t length;
+    bool is_text;
+    /* how to seek what else the word could be, or nothing */
+    const char *hint;
 };
 enum status take_sought(const char *word, bool text, bool hex, struct sought *sought);
 void print_places(FILE *to, const struct opened *opened, const struct sought *sought);
@@ -185,10 +198,11 @@ struct log {
     uint64_t standing, total;
 };
 #define LOG_FILE_MOST (24u + SNAP_LOG_MOST)
-/* Takes up the log that is kept in a file. Where there is none, or where it does not belong to the machine and memory and
-   `strict` is not asked for, the log stays as it is. */
+/* Takes up the log that is kept in a file. Where there is none, or where it is damaged or does not belong to the machine and
+   memory and `strict` is not asked for, the log stays as it is. */
 enum status load_log(const char *path, const struct opened *opened, bool strict, struct log *log);
-bool is_log(const uint8_t *file, size_t length);
+/* Whether these bytes are a log, or none at all, which a log may replace. */
+enum status check_log(const char *name, const uint8_t *file, size_t length);
 /* The file of a log, with a sum of the machine and memory that it belongs to; its length. */
 size_t log_bytes(const struct opened *opened, const struct log *log, uint8_t file[LOG_FILE_MOST]);
 /* The name of the log that is kept beside a file. */
@@ -206,6 +220,8 @@ struct session {
     struct log log;
     const struct edit_words *words;
     struct known *known;
+    /* the target of the log, as it was at the start */
+    char log_target[PATH_ROOM];
     /* corrections, undos and redos since the last save */
     unsigned unsaved;
     bool ended;

@@ -32,11 +32,8 @@ enum status refused_file(const char *file, uint32_t number, const uint8_t *bytes
 {
     char hint[HINT_SIZE];
     hint_for(number, bytes, length, hint);
-    if (as_json)
-        print_json_refusal(stdout, file, number, hint);
-    else if (hint[0] == 0)
-        return refused(file, number);
-    else
-        warn(file, "refused, %u: %s (%s)", (unsigned)number, snap_sentence(number), hint);
+    if (!as_json)
+        return refused_with_hint(file, number, hint);
+    print_json_refusal(stdout, file, number, hint);
     return REFUSED;
 }

@@ -94,11 +94,54 @@ foreign_log() {
     echo "notes of a curator" >"$work/f.z80.snaplog"
     lines 'byte 9000 01' 'save'
     run_tool 3 edit samples/museum-48k.z80 -o "$work/f.z80" --script "$work/script"
-    grep -qF "is not a correction log" "$work/err"
+    grep -qxF "snapshot: $work/f.z80.snaplog: is not a correction log; --log names another file" "$work/err"
     [ ! -e "$work/f.z80" ]
+    # beside the input it is in the way too, unless the log is elsewhere or new
+    cp samples/museum-48k.z80 "$work/f.z80"
+    run_tool 3 edit "$work/f.z80" -o "$work/f2.z80" --script "$work/script"
+    grep -qxF "snapshot: $work/f.z80.snaplog: is not a correction log; --log names another file" "$work/err"
+    run_tool 0 edit "$work/f.z80" -o "$work/f.z80" --log "$work/f.log" --script "$work/script"
+    run_tool 0 edit --new-log "$work/f.z80" -o "$work/f2.z80" --script "$work/script"
     [ "$(cat "$work/f.z80.snaplog")" = "notes of a curator" ]
 }
 check "a file that is no log is not replaced by one" foreign_log
+
+empty_log() {
+    cp samples/museum-48k.z80 "$work/empty.z80"
+    : >"$work/empty.z80.snaplog"
+    lines 'byte 9000 01' 'save'
+    run_tool 0 edit "$work/empty.z80" -o "$work/empty.z80" --script "$work/script"
+    [ ! -s "$work/err" ]
+    lines 'undo' 'save'
+    run_tool 0 edit "$work/empty.z80" -o "$work/empty.z80" --script "$work/script"
+    cmp samples/museum-48k.z80 "$work/empty.z80"
+    : >"$work/empty.log"
+    lines 'byte 9000 01' 'save'
+    run_tool 0 edit "$work/empty.z80" -o "$work/empty.z80" --log "$work/empty.log" --script "$work/script"
+    [ -s "$work/empty.log" ]
+}
+check "an empty file is no log, and a new log replaces it" empty_log
+
+# starts_anew WHY: the log beside k.z80 is left out of account, and it is said why.
+starts_anew() {
+    lines 'list'
+    run_tool 0 edit "$work/k.z80" -o "$work/k.z80" --script "$work/script"
+    [ "$(cat "$work/err")" = "snapshot: $work/k.z80.snaplog: $1; a new log is started" ]
+    grep -qF 'standing: 0, waiting: 0' "$work/out"
+}
+kept_log() {
+    lines 'byte 9000 01' 'save'
+    run_tool 0 edit samples/museum-48k.z80 -o "$work/k.z80" --script "$work/script"
+    cp "$work/k.z80.snaplog" "$work/k.log"
+    head -c -1 "$work/k.log" >"$work/k.z80.snaplog"
+    starts_anew "is damaged"
+    patched "$work/k.z80.snaplog" "$work/k.log" 20 00000000
+    starts_anew "is damaged"
+    cp "$work/k.log" "$work/k.z80.snaplog"
+    cp samples/museum-48k.z80 "$work/k.z80"
+    starts_anew "belongs to something else"
+}
+check "a kept log that is damaged is told from one of another machine" kept_log
 
 refusals() {
     refuses_line 23 samples/museum-48k.z80 'byte 3FFF 00'

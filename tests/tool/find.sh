@@ -66,7 +66,7 @@ check "places that overlap are all found" overlapping
 # place_at FILE HEX EXPECTED: the one place of these bytes, or none.
 place_at() {
     run_tool 0 find "$1" "$2"
-    [ "$(cut -c 1-36 "$work/out" | sed 's/ *$//')" = "$3" ]
+    [ "$(cut -c 1-36 "$work/out" | sed 's/^\(not found\): .*/\1/; s/ *$//')" = "$3" ]
 }
 borders() {
     scripted "$work/b48.z80" samples/museum-48k.z80 'byte 7FFF B1' 'byte 8000 B2' 'byte BFFF B3' 'byte C000 B4' \
@@ -92,6 +92,7 @@ borders() {
 check "places over a border, where the pages lie side by side as paging is now" borders
 
 text_or_hex() {
+    local word
     scripted "$work/kinds.z80" samples/museum-48k.z80 'byte 9000 41' 'byte 9001 42' 'byte A000 34' 'byte A001 31' \
         'byte A002 34' 'byte A003 32' 'byte B000 22' 'byte B001 AB' 'byte B002 22'
     place_at "$work/kinds.z80" 4142 'page 2 offset 1000  at 9000'
@@ -100,17 +101,23 @@ text_or_hex() {
     place_at "$work/kinds.z80" 414 'page 2 offset 2000  at A000'
     place_at "$work/kinds.z80" AB 'page 2 offset 3001  at B001'
     run_tool 0 find "$work/kinds.z80" -- --hex
-    [ "$(cat "$work/out")" = "not found" ]
+    [ "$(cat "$work/out")" = 'not found: text "--hex"' ]
     run_tool 0 find --text "$work/kinds.z80" 4142
     [ "$(places)" = "2 2000" ]
     run_tool 0 find --text "$work/kinds.z80" AB
     [ "$(places)" = "2 1000" ]
-    run_tool 0 find --hex "$work/kinds.z80" 4142
-    [ "$(places)" = "2 1000" ]
+    for word in 4142 '41 42' 0x4142 '$4142' '#41 42' '0X4 1 4 2' ' 4142 '; do
+        run_tool 0 find --hex "$work/kinds.z80" "$word"
+        [ "$(places)" = "2 1000" ]
+    done
     run_tool 0 find --text "$work/kinds.z80" $'"\xAB"'
     [ "$(places)" = "2 3000" ]
     run_tool 2 find --hex "$work/kinds.z80" 414
     grep -qF "'414' is not an even number of hex digits" "$work/err"
+    for word in 0x '' '41 4' '0x41 0x42' '##4142' '"4142"'; do
+        run_tool 2 find --hex "$work/kinds.z80" "$word"
+        grep -qF "'$word' is not an even number of hex digits" "$work/err"
+    done
     run_tool 2 find --hex --text "$work/kinds.z80" 4142
     grep -qF "'--text' and '--hex'" "$work/err"
     run_tool 2 find "$work/kinds.z80" ''
@@ -120,13 +127,39 @@ text_or_hex() {
 }
 check "an even number of hex digits is bytes, all else is text, and two options settle it" text_or_hex
 
-not_there() {
-    run_tool 0 find samples/museum-48k.z80 'no such text'
-    [ "$(cat "$work/out")" = "not found" ]
+# finds_none LINE WORDS..: the one line, of 80 columns at most, is 'not found: ' and this.
+finds_none() {
+    local line="not found: $1"
+    shift
+    run_tool 0 find samples/museum-48k.z80 "$@"
+    [ "$(cat "$work/out")" = "$line" ]
     [ ! -s "$work/err" ]
+    [ "${#line}" -le 80 ]
+}
+not_there() {
+    finds_none 'text "no such text"' 'no such text'
     # longer than all memory that lies in a row
-    run_tool 0 find samples/museum-48k.z80 "$(printf 'x%.0s' {1..50000})"
-    [ "$(cat "$work/out")" = "not found" ]
+    finds_none "text \"$(printf 'x%.0s' {1..40})...\"" "$(printf 'x%.0s' {1..50000})"
+    finds_none "text \"$(printf 'x%.0s' {1..40})\"" "$(printf 'x%.0s' {1..40})"
+    finds_none 'text "a\x0Ab\xFFé"' $'a\nb\xff\xc3\xa9'
+    finds_none 'text "\x1B\x1B\x1B\x1B\x1B\x1B\x1B\x1B\x1B\x1B..."' $'\e\e\e\e\e\e\e\e\e\e\e'
     refuses 4 tests/files/plus2.z80 find tests/files/plus2.z80 'no such text'
 }
 check "what is not there is one line and exit status 0" not_there
+
+other_ways() {
+    local bytes='FA CE FA CE FA CE FA CE FA CE FA CE'
+    finds_none 'bytes FA CE; --text seeks the text' face
+    finds_none 'bytes FA CE' --hex '$FA ce'
+    finds_none 'text "FACE"' --text FACE
+    finds_none 'text "FACE"' '"FACE"'
+    finds_none 'text "46 41"; --hex seeks bytes' '46 41'
+    finds_none 'text "0xFACE"; --hex seeks bytes' 0xFACE
+    finds_none 'text "#FA C"' '#FA C'
+    finds_none "bytes $bytes; --text seeks the text" "${bytes// /}"
+    finds_none "bytes $bytes ..; --text seeks the text" "${bytes// /}FA"
+    finds_none "bytes $bytes FA CE FA CE" --hex "$bytes FA CE FA CE"
+    finds_none "bytes $bytes FA CE FA CE .." --hex "$bytes FA CE FA CE FA"
+    finds_none "text \"${bytes}FACE ...\"; --hex seeks bytes" "${bytes}FACE FACE"
+}
+check "what is not found is named as it was taken, with how to seek it otherwise" other_ways

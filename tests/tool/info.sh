@@ -65,6 +65,22 @@ odd_names() {
     run_tool 0 info --json "$work/$name"
     iconv -f UTF-8 -t UTF-8 "$work/out" >"$work/text"
     [ "$(jq -r .file "$work/out")" = "$work/"$'a"b\\c\td\xef\xbf\xbd\xe2\x82\xac.z80' ]
+    # what ends a line, moves the cursor or turns the direction is escaped; what stands beside it is not
+    name=$'\x7f\xc2\x80\xc2\x9f\xe2\x80\xa8\xe2\x80\xa9\xe2\x80\xaa\xe2\x80\xae\xe2\x81\xa6\xe2\x81\xa9'
+    local beside=$'\xc2\xa0\xe2\x80\xa7\xe2\x80\xaf\xe2\x81\xa5\xe2\x81\xaa.z80'
+    local escaped='\u007f\u0080\u009f\u2028\u2029\u202a\u202e\u2066\u2069'
+    cp samples/museum-48k.z80 "$work/$name$beside"
+    names_file 0
+    : >"$work/$name$beside"
+    names_file 1
+    rm "$work/$name$beside"
+    names_file 3
+}
+# names_file STATUS: info ends with it, and has the name escaped.
+names_file() {
+    run_tool "$1" info --json "$work/$name$beside"
+    grep -qF "\"file\": \"$work/$escaped$beside\"" "$work/out"
+    [ "$(jq -r .file "$work/out")" = "$work/$name$beside" ]
 }
 check "JSON stays well formed for every file name" odd_names
 

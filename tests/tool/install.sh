@@ -110,6 +110,7 @@ make_alone() {
     cp include/snapshot.h "$work/bare/include"
     env -u MAKEFLAGS make --no-print-directory -C "$work/bare" >"$work/out"
     [ ! -e "$work/bare/target" ]
+    if grep -E '.{81}' "$work/out"; then return 1; fi
     for name in $(sed -n 's/^\.PHONY: help //p' Makefile); do grep -qE "^make $name .*[a-z]" "$work/out"; done
     [ "$(wc -l <"$work/out")" -eq "$(sed -n 's/^\.PHONY: help //p' Makefile | wc -w)" ]
 }

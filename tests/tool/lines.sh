@@ -50,6 +50,22 @@ extra_words() {
 }
 check "words that a command does not take are wrong use, with what it takes" extra_words
 
+named_words() {
+    local byte='; byte takes an address and 1 to 64 values, as in: byte 8000 7E'
+    misuses "'100' is no value from 0 to FF$byte" 'byte 8000 100'
+    misuses "'xx' is no value from 0 to FF$byte" 'byte 8000 1 xx'
+    misuses "'18000' is no address, 0 to FFFF$byte" 'byte 18000 1'
+    misuses "'g' is no address, 0 to FFFF; text takes " 'text g "a"'
+    misuses "'ZZ' is no register pair; pair takes " 'pair ZZ 1'
+    misuses "'10000' is no value from 0 to FFFF; pair takes " 'pair HL 10000'
+    misuses "'100' is no value from 0 to FF; out takes " 'out 100'
+    misuses "'x' is no count up to 4096; undo takes " 'undo x'
+    misuses "there is no command 'frob'; see 'help'" 'frob 1'
+    misuses "there is no command 'a\x1Bb'; see 'help'" $'a\eb'
+    misuses "there is no command '$(printf 'x%.0s' {1..40})...'; see 'help'" "$(printf 'x%.0s' {1..41})"
+}
+check "a wrong word of a line is named, before what its command takes" named_words
+
 quotes() {
     misuses "the closing quote is missing" 'save "a'
     misuses "between quotes a backslash stands before" 'text 8000 "a\n"'
@@ -126,7 +142,7 @@ pipe_script() {
     mkfifo "$work/script.pipe"
     exec 9<>"$work/script.pipe"
     echo quit >&9
-    says "is a pipe or a device, not a file" "$work/script.pipe" \
+    says "is a pipe or a device, not a file; '--script -' reads standard input" "$work/script.pipe" \
         edit samples/museum-48k.z80 -o "$work/never.z80" --script "$work/script.pipe"
 }
 check "a script that is a pipe is refused" pipe_script
@@ -154,19 +170,29 @@ viewed_lines() {
     run_tool 0 edit samples/museum-48k.z80 -o "$work/never.z80" --script "$work/script"
     grep -qE '^9000  AB 00 ' "$work/out"
     [ "$(grep -cE '^9000  AB 00 ' "$work/out")" -eq 2 ]
-    lines 'view 9000..8FFF'
-    run_tool 2 edit samples/museum-48k.z80 -o "$work/never.z80" --script "$work/script"
+    misuses "'9000..8FFF' is no range of addresses: the first is above the last" 'view 9000..8FFF'
+    misuses "'five' is neither a page, as in 5, nor a range of addresses, as in 4000..57FF" 'view five'
 }
 check "view takes a page or a range, as the memory is now" viewed_lines
 
 moved_lines() {
     lines 'byte 8000 01' 'byte 8001 02' 'undo 3' 'save'
     run_tool 1 edit samples/museum-48k.z80 -o "$work/never.z80" --script "$work/script"
-    grep -qF 'refused, 27: ' "$work/err"
+    grep -qE ':3: refused, 27: there is nothing to undo or redo \(2 stand\)$' "$work/err"
     [ "$(grep -c '^undone' "$work/out" || true)" -eq 0 ]
     lines 'byte 8000 01' 'byte 8001 02' 'undo 2' 'redo 3' 'save'
     run_tool 1 edit samples/museum-48k.z80 -o "$work/never.z80" --script "$work/script"
+    grep -qE ' \(2 wait\)$' "$work/err"
     [ "$(grep -c '^redone' "$work/out" || true)" -eq 0 ]
+    lines 'byte 8000 01' 'undo 2'
+    run_tool 1 edit samples/museum-48k.z80 -o "$work/never.z80" --script "$work/script"
+    grep -qE ' \(1 stands\)$' "$work/err"
+    lines 'byte 8000 01' 'undo' 'redo 2'
+    run_tool 1 edit samples/museum-48k.z80 -o "$work/never.z80" --script "$work/script"
+    grep -qE ' \(1 waits\)$' "$work/err"
+    lines 'undo 2'
+    run_tool 1 edit samples/museum-48k.z80 -o "$work/never.z80" --script "$work/script"
+    grep -qE ': there is nothing to undo or redo$' "$work/err"
     [ ! -e "$work/never.z80" ]
 }
 check "undo and redo of more than there are change nothing" moved_lines

@@ -3,13 +3,13 @@
 dropped() {
     lines 'byte 9000 01' 'pair HL 1' 'undo' 'byte 0 0'
     run_tool 1 edit samples/museum-48k.z80 -o "$work/never.z80" --script "$work/script"
-    [ "$(tail -n 1 "$work/err")" = "snapshot: $work/script: 3 corrections since the last save are dropped" ]
+    [ "$(tail -n 1 "$work/err")" = "snapshot: $work/script: 3 changes since the last save are dropped" ]
     lines 'byte 9000 01' "save $work/m.z80" 'byte 9000 02' 'poke'
     run_tool 2 edit samples/museum-48k.z80 -o "$work/never.z80" --script "$work/script"
-    [ "$(tail -n 1 "$work/err")" = "snapshot: $work/script: 1 correction since the last save is dropped" ]
+    [ "$(tail -n 1 "$work/err")" = "snapshot: $work/script: 1 change since the last save is dropped" ]
     lines 'byte 9000 1 2'
     run_tool 2 edit samples/museum-48k.z80 -o "$work/never.z80" --script "$work/script"
-    [ "$(cat "$work/err")" = "snapshot: $work/script: ends without 'save': 2 corrections since the last save are dropped" ]
+    [ "$(cat "$work/err")" = "snapshot: $work/script: ends without 'save': 2 changes since the last save are dropped" ]
     lines 'byte 0 0'
     run_tool 1 edit samples/museum-48k.z80 -o "$work/never.z80" --script "$work/script"
     [ "$(wc -l <"$work/err")" -eq 1 ]

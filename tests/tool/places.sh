@@ -118,7 +118,17 @@ no_log_at_start() {
     run_tool 2 edit samples/museum-48k.z80 -o "$work/early.z80" --log "$work/late.log" --script "$work/script"
     [ ! -e "$work/late.log" ]
 }
+told_once() {
+    local name
+    mkdir -p "$work/folder"
+    for name in "$work/absent/x.z80" "$work/folder" '""'; do
+        lines "save $name"
+        run_tool 3 edit samples/museum-48k.z80 -o "$work/never.z80" --log "$work/once.log" --script "$work/script"
+        [ "$(wc -l <"$work/err")" -eq 1 ]
+    done
+}
 check "a place for the output that cannot be written is told at the start" no_place_at_start
+check "a name that cannot be saved under is told once, where --log is given too" told_once
 check "a place for the log that cannot be written is told at the start, and nothing is saved" no_log_at_start
 
 # the folder of another user
@@ -131,10 +141,12 @@ no_folder_at_start() {
     printf 'list\nbyte 9000 01\nsave\n' >"$work_user/script"
     as_nobody "$work_user/snapshot" edit "$work_user/museum-48k.z80" -o "$work_user/closed/o.z80" \
         --script "$work_user/script" >"$work/out" 2>"$work/err" || status=$?
+    as_nobody "$work_user/snapshot" write "$work_user/museum-48k.z80" -o "$work_user/closed/o.z80" 2>"$work/written" || true
     rm -rf "$work_user"
     [ "$status" -eq 3 ]
-    grep -qF "closed/o.z80: cannot be written: Permission denied" "$work/err"
+    [ "$(cat "$work/err")" = "snapshot: $work_user/closed/o.z80: cannot be written: its folder: Permission denied" ]
     [ ! -s "$work/out" ]
+    [ "$(cat "$work/written")" = "$(cat "$work/err")" ]
 }
 check "a folder that may not be written is told at the start" no_folder_at_start
 
@@ -211,6 +223,23 @@ owners() {
     cmp samples/museum-48k.z80 "$work/owned/out.z80"
 }
 check "owner, group and permissions are kept, set-id bits are not" owners
+
+owner_of_log() {
+    local file=$work/owned/in.z80
+    rm -rf "$work/owned"
+    mkdir -m 777 "$work/owned"
+    cp samples/museum-48k.z80 "$file"
+    if [ "$(id -u)" -eq 0 ]; then chown 1234:2345 "$file"; fi
+    chmod 600 "$file"
+    lines 'byte 9000 01' 'save'
+    run_tool 0 edit "$file" -o "$file" --script "$work/script"
+    [ "$(stat -c %a "$file.snaplog")" = 600 ]
+    [ "$(stat -c %u:%g "$file.snaplog")" = "$(stat -c %u:%g "$file")" ]
+    chmod 640 "$file.snaplog"
+    run_tool 0 edit "$file" -o "$file" --script "$work/script"
+    [ "$(stat -c %a "$file" "$file.snaplog" | paste -s -d ' ')" = "600 640" ]
+}
+check "a new log has the owner, group and permissions of its snapshot, and then its own" owner_of_log
 
 other_screens() {
     echo "notes of a curator" >"$work/notes"

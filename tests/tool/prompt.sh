@@ -57,6 +57,8 @@ quits() {
     keys 'byte 9000 01\n' 'quit\n' 'byte 9001 02\n' 'quit\n' 'list\n' 'quit\n' 'quit\n' |
         at_prompt edit samples/museum-48k.z80 -o "$work/never.z80"
     warned 3
+    grep -qF "samples/museum-48k.z80: 1 change is not saved: 'save', or 'quit' again" "$terminal"
+    grep -qF "samples/museum-48k.z80: 2 changes are not saved: 'save', or 'quit' again" "$terminal"
     grep -qF 'standing: 2, waiting: 0' "$terminal"
     keys 'byte 9000 01\n' 'quit\n' 'undo\n' 'quit\n' 'redo\n' 'quit\n' 'quit\n' |
         at_prompt edit samples/museum-48k.z80 -o "$work/never.z80"
@@ -123,10 +125,27 @@ log_place_lost() {
         waits has_ended
     } | at_prompt edit samples/museum-48k.z80 -o "$work/lost.z80" --log "$work/lost/log"
     [ ! -e "$work/lost.z80" ]
+    # the place is told of by the first save alone
+    [ "$(grep -cF 'cannot be written' "$terminal")" -eq 1 ]
     [ "$(page_byte "$work/rescued.z80" 2 1000)" = 01 ]
     [ -e "$work/rescued.z80.snaplog" ]
 }
 check "where the log's place is gone, save NAME still saves both" log_place_lost
+
+# standard output is a pipe: what is answered is in it before the next line is typed
+is_piped() { grep -qF -- "$1" "$work/piped"; }
+piped_answers() {
+    : >"$work/piped"
+    {
+        printf 'list\n'
+        waits is_piped 'standing: 0, waiting: 0'
+        printf 'byte 9000 01\n'
+        waits is_piped 'corrected: byte in page 2 at offset 1000'
+        printf 'quit\nquit\n'
+        waits is_piped 'ended'
+    } | timeout 200 script -qfec "{ $(printf '%q ' "$tool" edit samples/museum-48k.z80 -o "$work/never.z80"); echo ended; } | tee $work/piped" /dev/null
+}
+check "through a pipe the answers come line by line" piped_answers
 
 other_names() {
     keys '?\n' 'byte 9000 01\n' 'exit\n' 'q\n' | at_prompt edit samples/museum-48k.z80 -o "$work/never.z80"

@@ -89,10 +89,13 @@ limit() {
 check "a file past the size limit is an error, not a death" limit
 
 output_full() {
-    local status=0
-    "$tool" view samples/museum-48k.z80 5 >/dev/full 2>"$work/err" || status=$?
-    [ "$status" -eq 3 ]
-    grep -qF "standard output" "$work/err"
+    local status words
+    for words in 'info samples/museum-48k.z80' 'view samples/museum-48k.z80 5'; do
+        status=0
+        "$tool" $words >/dev/full 2>"$work/err" || status=$?
+        [ "$status" -eq 3 ]
+        [ "$(cat "$work/err")" = "snapshot: standard output: cannot be written: No space left on device" ]
+    done
 }
 check "standard output that cannot be written is exit status 3" output_full
 

@@ -88,7 +88,7 @@ output_faults() {
         status=0
         "$tool" $words >/dev/full 2>"$work/err" || status=$?
         [ "$status" -eq 3 ]
-        grep -qF "standard output: cannot be written" "$work/err"
+        grep -qF "standard output: cannot be written: No space left on device" "$work/err"
         status=0
         script -qec "$tool $words" /dev/null >"$work/terminal" </dev/null || status=$?
         [ "$status" -eq 2 ]

@@ -6,6 +6,8 @@ helps() {
     cp "$work/out" "$work/help"
     run_tool 0 -h
     diff "$work/help" "$work/out"
+    run_tool 0 help
+    diff "$work/help" "$work/out"
     for command in info view find screen edit write; do
         run_tool 0 "$command" --help
         [ ! -s "$work/err" ]
@@ -17,6 +19,8 @@ helps() {
             grep -qE -- "^    $option( |\$)" "$work/one"
         done
         run_tool 0 "$command" samples/museum-48k.z80 -h
+        diff "$work/one" "$work/out"
+        run_tool 0 help "$command"
         diff "$work/one" "$work/out"
     done
     if grep -E '.{81}' "$work/help"; then false; fi
@@ -65,6 +69,12 @@ write a.z80|'snapshot write' needs -o OUT
 edit a.z80|'snapshot edit' needs -o OUT
 look a.z80|there is no command 'look'
 --json a.z80|there is no command '--json'
+--version x|'x' is one name too many for 'snapshot --version'
+-V info|'info' is one name too many for 'snapshot -V'
+--help x|'x' is one name too many for 'snapshot --help'
+-h info|'info' is one name too many for 'snapshot -h'
+help info x|'x' is one name too many for 'snapshot help'
+help look|there is no command 'look'
 WORDS
 }
 check "a wrong word is named, in one line, with exit status 2" named_mistakes
