@@ -13,7 +13,7 @@ _snapshot() {
         -o | --output | --rom | --script | --log) ;;
         *)
             if [ "$COMP_CWORD" -eq 1 ]; then
-                offered="info view find screen edit write --help --version"
+                offered="info view find screen edit write help --help --version"
             elif [[ $word == -* ]]; then
                 case ${COMP_WORDS[1]} in
                     info) offered="--json" ;;

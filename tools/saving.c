@@ -27,14 +27,14 @@ static bool write_all(int to, const uint8_t *bytes, size_t length)
     return true;
 }
 
-/* The owner, group and permissions of a model, or where it is not there those of a new file. Where they cannot be set, as on
+/* The owner, group and permissions of a pattern, or where it is not there those of a new file. Where they cannot be set, as on
    a FAT disk or by another user, they stay as they are made. Set-id bits are not kept. */
-static void set_owner_and_permissions(int to, const char *model)
+static void set_owner_and_permissions(int to, const char *pattern)
 {
     struct stat about;
     mode_t mask = umask(0);
     umask(mask);
-    if (stat(model, &about) != 0) {
+    if (stat(pattern, &about) != 0) {
         fchmod(to, 0666 & ~mask);
         return;
     }
@@ -44,14 +44,14 @@ static void set_owner_and_permissions(int to, const char *model)
 }
 
 /* What is replaced; for a new log it is the snapshot that it is saved with. */
-static const char *model_of(const struct output *outputs, unsigned at)
+static const char *pattern_of(const struct output *outputs, unsigned at)
 {
     struct stat about;
     bool new_log = at > 0 && outputs[at].kind == LOG_FILE && stat(outputs[at].target, &about) != 0;
     return new_log ? outputs[0].temporary : outputs[at].target;
 }
 
-static enum status make_temporary(struct output *output, const char *model)
+static enum status make_temporary(struct output *output, const char *pattern)
 {
     char folder[PATH_ROOM];
     folder_of(output->target, folder);
@@ -60,7 +60,7 @@ static enum status make_temporary(struct output *output, const char *model)
     int to = mkstemp(output->temporary);
     if (to < 0)
         return cannot_write(output->name);
-    set_owner_and_permissions(to, model);
+    set_owner_and_permissions(to, pattern);
     bool there = write_all(to, output->bytes, output->length) && fsync(to) == 0;
     int why = errno;
     if (close(to) != 0 && there) {
@@ -187,7 +187,7 @@ enum status save_files(struct output *outputs, unsigned count, struct known **kn
     sigfillset(&all);
     sigprocmask(SIG_BLOCK, &all, &before);
     for (; made < count && status == ACCEPTED; made += status == ACCEPTED)
-        status = make_temporary(&outputs[made], model_of(outputs, made));
+        status = make_temporary(&outputs[made], pattern_of(outputs, made));
     if (status == ACCEPTED)
         status = put_in_place(outputs, count, known);
     while (made-- > 0)

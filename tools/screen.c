@@ -1,5 +1,5 @@
-/* screen.c: the picture on a page of screen memory with its border, as a PNG of 320 by 240 pixels. FLASH is shown in its
- * first phase. */
+/* screen.c: the picture on a page of screen memory with its border, as a PNG of 320 by 240 pixels, each 1 to 8 dots a side, or
+ * the screen's own bytes. FLASH is shown in its first phase. */
 #include <png.h>
 #include <stdlib.h>
 #include <string.h>

@@ -8,7 +8,7 @@ offers() {
 
 completed_words() {
     local command
-    [ "$(offers snapshot '')" = "--help --version edit find info screen view write" ]
+    [ "$(offers snapshot '')" = "--help --version edit find help info screen view write" ]
     [ "$(offers snapshot --)" = "--help --version" ]
     [ "$(offers snapshot e)" = edit ]
     for command in info view find screen edit write; do

@@ -31,29 +31,29 @@ pub struct Switches {
     pub joystick: u8,
 }
 
-// All that document 01 carries of a machine but its memory.
+// All that document 01 carries of a machine but its memory. The order is for the compiler: a machine has 88 bytes, which are copied,
+// whole or in part, in pieces that do not overlap.
 pub struct Machine {
     // AF BC DE HL AF' BC' DE' HL' IX IY SP PC
     pub pairs: [u16; 12],
+    pub model: Model,
+    // the last OUT to 7FFD, and to FFFD
+    pub out7ffd: u8,
+    pub outfffd: u8,
+    // the frame position
+    pub position: u32,
+    pub sound: [u8; 16],
+    pub attachment: Attachment,
     pub i: u8,
     pub r: u8,
-    pub switches: Switches,
-    pub model: Model,
-    pub attachment: Attachment,
-    // the last OUT to 7FFD
-    pub out7ffd: u8,
     pub byte36: u8,
     // bits 0 and 1 of byte 37
     pub remulation: bool,
     pub ldiremulation: bool,
-    // the last OUT to FFFD
-    pub outfffd: u8,
-    pub sound: [u8; 16],
-    // the frame position
-    pub position: u32,
     // the 26 side bytes: byte 59, and bytes 61 to 85
     pub side59: u8,
     pub side: [u8; 25],
+    pub switches: Switches,
 }
 
 impl Machine {
