@@ -17,7 +17,7 @@ pub fn pack(src: &[u8], dst: &mut [u8]) -> Fit
     let mut o: usize = 0;
     while i + 20 <= src.len() {
         if dst.len() < o + 20 {
-            return pack_rest(src, i, dst, o);
+            break;
         }
         let stop = copy16(src, i, dst, o);
         let k = stop.at;

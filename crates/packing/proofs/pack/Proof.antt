@@ -133,15 +133,6 @@ loop-again-5 c =
     let g = stopped _ _ _ _ _ _ (c .before .before .before .before .before .before .before .before .before .before .before .before .before .before .before .loop .inv) _ _ _ (c .before .before .before .before .before .before .before .before .before .before .before .copy16 .ensures) (search needs) (search needs) in
     again-four _ _ _ _ _ _ g _ (search needs) _ (c .before .before .before .before .before .before .run-from .ensures) (c .before .before .put-four .ensures) (search needs) (search needs) (search needs)
 
-pack-rest-requires-2 : tie.Need-pack-rest-requires-2 Inv-loop μ-loop
-pack-rest-requires-2 c κs = search needs
-
-same-length-2 : tie.Need-same-length-2 Inv-loop μ-loop
-same-length-2 c = search needs
-
-returns-2 : tie.Need-returns-2 Inv-loop μ-loop
-returns-2 c = search rest-packed
-
 pub pack-spec : {M : Type 1} → statement M
 pack-spec =
     tie.close
@@ -151,9 +142,6 @@ pack-spec =
     loop-holds
     add-loop
     add-if1
-    pack-rest-requires
-    same-length
-    returns
     copy16-requires
     add-i
     add-o
@@ -185,6 +173,6 @@ pack-spec =
     add-o-5
     loop-less-5
     loop-again-5
-    pack-rest-requires-2
-    same-length-2
-    returns-2)
+    pack-rest-requires
+    same-length
+    returns)
