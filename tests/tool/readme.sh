@@ -37,3 +37,12 @@ readme_output() {
     done
 }
 check "every line of output that README quotes is printed so" readme_output
+
+# the kit: which one, and that nothing here brings it
+readme_kit() {
+    tr -s ' \n' ' ' <README.md >"$work/readme"
+    grep -qF 'The kit is the one that the file `KIT` names' "$work/readme"
+    grep -qF 'it is not in this repository, nothing here fetches it' "$work/readme"
+    [ "$(rt version | sed -E 's/[^ ]+/x/g')" = "$(sed -E 's/[^ ]+/x/g' KIT)" ]
+}
+check "README says which kit is needed and where it is to be had, and rt version prints a line as KIT has it" readme_kit
