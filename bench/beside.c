@@ -12,7 +12,17 @@ uint32_t other_snap_correct_byte(uint8_t *, size_t, uint8_t *, size_t, uint8_t *
 uint32_t other_snap_undo(uint8_t *, size_t, uint8_t *, size_t, uint8_t *, size_t, uint64_t *, uint64_t *);
 uint32_t other_snap_redo(uint8_t *, size_t, uint8_t *, size_t, uint8_t *, size_t, uint64_t *, uint64_t *);
 
-enum { ROUNDS = 41, FILES = 64, STEPS = 4096 };
+struct build {
+    uint32_t (*read)(const uint8_t *, size_t, uint8_t *, size_t, uint8_t *, size_t);
+    uint32_t (*write)(const uint8_t *, size_t, const uint8_t *, size_t, uint8_t *, size_t, uint64_t *);
+    uint32_t (*correct)(uint8_t *, size_t, uint8_t *, size_t, uint8_t *, size_t, uint64_t *, uint64_t *, uint16_t, uint8_t);
+    uint32_t (*undo)(uint8_t *, size_t, uint8_t *, size_t, uint8_t *, size_t, uint64_t *, uint64_t *);
+    uint32_t (*redo)(uint8_t *, size_t, uint8_t *, size_t, uint8_t *, size_t, uint64_t *, uint64_t *);
+};
+static const struct build ours = { snap_z80_read, snap_z80_write, snap_correct_byte, snap_undo, snap_redo };
+static const struct build theirs = { other_snap_z80_read, other_snap_z80_write, other_snap_correct_byte, other_snap_undo, other_snap_redo };
+
+enum { ROUNDS = 41, FILES = 64, STEPS = 4096, CALLS = 512 };
 static uint8_t *files[FILES];
 static size_t lengths[FILES];
 static int count;
@@ -39,39 +49,33 @@ static void load(const char *name)
     lengths[count++] = n;
 }
 
-/* The five parts, of this library (0) and of the other one (1). */
-static double part(int which, int other)
+static void corrections(const struct build *by)
+{
+    for (int k = 0; k < CALLS; k++)
+        by->correct(head, sizeof head, area, sizeof area, journal, sizeof journal, &standing, &total, (uint16_t)(0x8000 + k), (uint8_t)k);
+}
+
+static void calls(uint32_t (*call)(uint8_t *, size_t, uint8_t *, size_t, uint8_t *, size_t, uint64_t *, uint64_t *))
+{
+    for (int k = 0; k < CALLS; k++) call(head, sizeof head, area, sizeof area, journal, sizeof journal, &standing, &total);
+}
+
+/* The five parts. What comes before the clock starts is done by the same build: the processor remembers where it went. */
+static double part(int which, const struct build *by)
 {
     double start, spent = 0;
-    int i, k;
-    for (i = 0; i < count; i++) {
-        snap_z80_read(files[i], lengths[i], area, sizeof area, head, sizeof head);
+    for (int i = 0; i < count; i++) {
+        by->read(files[i], lengths[i], area, sizeof area, head, sizeof head);
         snap_log_start(journal, sizeof journal, &standing, &total);
-        if (which == 3 || which == 4)
-            for (k = 0; k < 512; k++)
-                snap_correct_byte(head, 86, area, sizeof area, journal, sizeof journal, &standing, &total, (uint16_t)(0x8000 + k), (uint8_t)k);
-        if (which == 4)
-            for (k = 0; k < 512; k++)
-                snap_undo(head, 86, area, sizeof area, journal, sizeof journal, &standing, &total);
+        if (which >= 3) corrections(by);
+        if (which == 4) calls(by->undo);
         start = now();
         switch (which) {
-        case 0:
-            (other ? other_snap_z80_read : snap_z80_read)(files[i], lengths[i], area, sizeof area, head, sizeof head);
-            break;
-        case 1:
-            (other ? other_snap_z80_write : snap_z80_write)(head, 86, area, sizeof area, out, sizeof out, &size);
-            break;
-        case 2:
-            for (k = 0; k < 512; k++)
-                (other ? other_snap_correct_byte : snap_correct_byte)(head, 86, area, sizeof area, journal, sizeof journal, &standing, &total, (uint16_t)(0x8000 + k), (uint8_t)k);
-            break;
-        case 3:
-            for (k = 0; k < 512; k++)
-                (other ? other_snap_undo : snap_undo)(head, 86, area, sizeof area, journal, sizeof journal, &standing, &total);
-            break;
-        default:
-            for (k = 0; k < 512; k++)
-                (other ? other_snap_redo : snap_redo)(head, 86, area, sizeof area, journal, sizeof journal, &standing, &total);
+        case 0: by->read(files[i], lengths[i], area, sizeof area, head, sizeof head); break;
+        case 1: by->write(head, sizeof head, area, sizeof area, out, sizeof out, &size); break;
+        case 2: corrections(by); break;
+        case 3: calls(by->undo); break;
+        default: calls(by->redo);
         }
         spent += now() - start;
     }
@@ -95,7 +99,7 @@ int main(int argc, char **argv)
     for (which = 0; which < 5; which++) {
         for (round = 0; round < ROUNDS; round++) {
             double a, b;
-            if (round % 2) { a = part(which, 0); b = part(which, 1); } else { b = part(which, 1); a = part(which, 0); }
+            if (round % 2) { a = part(which, &ours); b = part(which, &theirs); } else { b = part(which, &theirs); a = part(which, &ours); }
             ratio[round] = a / b;
         }
         qsort(ratio, ROUNDS, sizeof *ratio, less);

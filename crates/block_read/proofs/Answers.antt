@@ -12,22 +12,22 @@ use Rattle.packed.specs.Unpacking.{Unpacks, answerOf, leftBy}
 use Rattle.packed.specs.declared.Unpacked.{Unpacked}
 use Rattle.packed.specs.declared.Unpacked.the-variants.{Good, WrongLength, Malformed}
 
-abbrev Told : Found → ℕ → List ℕ → Unpacked → Type 0
-Told u m d Good = (u ≡ bytes d) × (length d ≡ m)
-Told u m d WrongLength = (xs : List ℕ) × ((u ≡ bytes xs) × (eqb (length xs) m ≡ false))
-Told u m d Malformed = u ≡ malformed
+abbrev UnpackedSays : Found → ℕ → List ℕ → Unpacked → Type 0
+UnpackedSays u m d Good = (u ≡ bytes d) × (length d ≡ m)
+UnpackedSays u m d WrongLength = (xs : List ℕ) × ((u ≡ bytes xs) × (eqb (length xs) m ≡ false))
+UnpackedSays u m d Malformed = u ≡ malformed
 
-told : (u : Found) (m : ℕ) → Told u m (leftBy u m) (answerOf u m)
-told malformed m = refl
-told (bytes xs) m = go (eqb (length xs) m) refl
+unpacked-says : (u : Found) (m : ℕ) → UnpackedSays u m (leftBy u m) (answerOf u m)
+unpacked-says malformed m = refl
+unpacked-says (bytes xs) m = go (eqb (length xs) m) refl
   where
-    go : (b : Bool) → eqb (length xs) m ≡ b → Told (bytes xs) m (choose b xs (replicate m 0)) (choose b Good WrongLength)
+    go : (b : Bool) → eqb (length xs) m ≡ b → UnpackedSays (bytes xs) m (choose b xs (replicate m 0)) (choose b Good WrongLength)
     go true e = (refl, eqb-true _ _ e)
     go false e = (xs, (refl, e))
 
 module _ (u : Found) (n m : ℕ) (r : Unpacked) (d : List ℕ) (h : Unpacks u n r d) (l : n ≡ m) where
-  told-here : Told u m d r
-  told-here = rw (h .answer, h .memory, l) (told u m)
+  told-here : UnpackedSays u m d r
+  told-here = rw (h .answer, h .memory, l) (unpacked-says u m)
 
   pub good-is : r ≡ Good → (u ≡ bytes d) × (length d ≡ m)
   good-is e = rw e at told-here

@@ -1,3 +1,3 @@
-pub mod Turns
-pub mod Lengths
-pub mod Steps
+pub mod BlocksSoFar
+pub mod BlocksLengths
+pub mod BlockSteps

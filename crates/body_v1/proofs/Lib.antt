@@ -1,3 +1,3 @@
 mod Bodies
-mod Moves
-pub mod Lengths
+mod BodyMoves
+pub mod BodyLengths

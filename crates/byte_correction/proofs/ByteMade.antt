@@ -18,7 +18,7 @@ use Rattle.session.proofs.Given.{refusedDone}
 use Rattle.log_steps.specs.Steps.{capacity, putStep}
 use Rattle.log_steps.specs.Inner.{Ready}
 use Rattle.corrections.specs.Corrections.{byteAt, placeIn, store, make, romFirst, room, correctionAnswer, step, byteStep, stepFor, corrected}
-use Rattle.corrections.proofs.Made.{addedDone, refused-as, full, open-room}
+use Rattle.corrections.proofs.CorrectionSteps.{addedDone, refused-as, journal-full, open-room}
 use Rattle.byte_correction.specs.Inner.{byteMade}
 
 module _ (m : Machine) (mem log : List ℕ) (n : Counts) (cap : ℕ) (g : Ready mem log n cap) where
@@ -33,7 +33,7 @@ module _ (m : Machine) (mem log : List ℕ) (n : Counts) (cap : ℕ) (g : Ready 
     module _ (page offset : ℕ) (e : p ≡ Ram page offset) where
       pub byte-full : (r : Done) → cap ≤ n .standing → r ≡ refusedDone JournalFull m n → resultOf r mem log ≡ corrected (byteAt a v) (sessionOn m mem log n)
       unfolding correctionAnswer
-      byte-full r h er = refused-as m mem log n cap g (byteAt a v) JournalFull r (sym (by-place _) ∙ ap (λ (q : Place). romFirst q (room cap (n .standing))) e ∙ full m mem log n cap g h) er
+      byte-full r h er = refused-as m mem log n cap g (byteAt a v) JournalFull r (sym (by-place _) ∙ ap (λ (q : Place). romFirst q (room cap (n .standing))) e ∙ journal-full m mem log n cap g h) er
 
       pub byte-page : a < 65536 → page < 8
       byte-page w = place-inside (m .model) (m .out7ffd) a page offset w (sym ep ∙ e) .small

@@ -15,7 +15,7 @@ use Rattle.log_steps.specs.declared.Step.{Step}
 use Rattle.log_steps.specs.Steps.{capacity, putStep}
 use Rattle.step_places.specs.Pointed.{present, placed, intact}
 use Rattle.session.specs.Session.{Session, CallResult, started}
-use Rattle.log_steps.proofs.Written.{stepAt-below, length-putStep, room-in-log}
+use Rattle.log_steps.proofs.StepBytes.{stepAt-below, length-putStep, room-in-log}
 use Rattle.corrections.specs.Corrections.{Correction, byteAt, pairTo, outTo, make, correctionAnswer, stepFor, corrected}
 use Rattle.undo.specs.Undo.{moved, undoOf, redoOf}
 use Rattle.five_calls.specs.declared.Call.{Call}
@@ -168,13 +168,13 @@ module _ (start : State) (size : ℕ) where
   call-agrees Redo log b wide k = redo-agrees log (b .applied) (b .undone) k
 
   -- what holds after a list of calls
-  record Told (calls : List Call) (log : List ℕ) (b : History) : Type 0 where
+  record AfterCalls (calls : List Call) (log : List ℕ) (b : History) : Type 0 where
     last : List ℕ
     fit : ValidStart (made start (historyAfter start size b calls .applied))
     session : runAfter journalCall (historySession start log b) calls ≡ historySession start last (historyAfter start size b calls)
     answers : runAnswers journalCall (historySession start log b) calls ≡ historyAnswers start size b calls
 
-  calls-agree : (calls : List Call) (log : List ℕ) (b : History) → TypedCalls calls → Kept start size log b → Told calls log b
+  calls-agree : (calls : List Call) (log : List ℕ) (b : History) → TypedCalls calls → Kept start size log b → AfterCalls calls log b
   calls-agree [] log b wide k = record { last = log; fit = k .fit; session = refl; answers = refl }
   calls-agree (c ∷ cs) log b wide k =
       let a = call-agrees c log b (wide .0) k in
@@ -186,13 +186,13 @@ module _ (start : State) (size : ℕ) where
         answers = ap (λ (x : CallResult). x .answer ∷ runAnswers journalCall (x .session) cs) (a .same) ∙ ap (λ (l : List Answer). historyCall start size b c .answer ∷ l) (t .answers);
       }
 
-  told : (log : List ℕ) → length log ≡ size → ValidStart start → (calls : List Call) → TypedCalls calls → Told calls log noHistory
-  told log e ok calls wide = calls-agree calls log noHistory wide (record { long = e; bound = omega arith; fit = ok; past = tt; future = tt })
+  after-calls : (log : List ℕ) → length log ≡ size → ValidStart start → (calls : List Call) → TypedCalls calls → AfterCalls calls log noHistory
+  after-calls log e ok calls wide = calls-agree calls log noHistory wide (record { long = e; bound = omega arith; fit = ok; past = tt; future = tt })
 
 -- THE CLAIM
 pub claim : ClaimOf journalCall
 claim start log ok calls wide =
-    let t = told start (length log) log refl ok calls wide in
+    let t = after-calls start (length log) log refl ok calls wide in
     record {
       state = ap (λ (d : Session). d .state) (t .session);
       standing = ap (λ (d : Session). d .standing) (t .session);
@@ -203,5 +203,5 @@ claim start log ok calls wide =
 -- what a list of calls leaves is a start again
 pub start-after : (start : State) (log : List ℕ) → ValidStart start → (calls : List Call) → TypedCalls calls → ValidStart (runAfter journalCall (started start log) calls .state)
 start-after start log ok calls wide =
-    let t = told start (length log) log refl ok calls wide in
+    let t = after-calls start (length log) log refl ok calls wide in
     subst (λ (d : Session). ValidStart (d .state)) (sym (t .session)) (t .fit)

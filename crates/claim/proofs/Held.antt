@@ -24,7 +24,7 @@ use Rattle.numbers.proofs.Numbers.{refused-not, refuse-not}
 use Rattle.log_steps.specs.declared.Step.{Step}
 use Rattle.log_steps.specs.Steps.{putStep, stepAt}
 use Rattle.step_places.specs.Pointed.{present, placed, intact}
-use Rattle.log_steps.proofs.Written.{stepAt-same}
+use Rattle.log_steps.proofs.StepBytes.{stepAt-same}
 use Rattle.corrections.specs.Corrections.{Correction, byteAt, pairTo, outTo, placeIn, store, make, romFirst, outFirst, room, correctionAnswer, step, byteStep, stepFor}
 use Rattle.pages.proofs.Inside.{Inside, place-inside}
 use Rattle.claim.specs.Claim.{ValidStart}

@@ -4,5 +4,5 @@ pub mod Still
 pub mod Never
 pub mod Order
 pub mod Opens
-pub mod Refuted
+pub mod RefutedClaims
 pub mod Theorems

@@ -67,16 +67,16 @@ correct-other : (start : State) (size : ℕ) (b : History) (c : Correction) → 
 correct-other start size b c =
     joins-other (correctionAnswer (capacity size) (made start (b .applied)) (length (b .applied)) c) c b (answer-other (capacity size) (made start (b .applied)) (length (b .applied)) c)
 
-call-other : (start : State) (size : ℕ) (b : History) (c : Call) → Not28Or29 (numberOf (historyCall start size b c .answer))
-call-other start size b (Byte a v) = correct-other start size b (byteAt a v)
-call-other start size b (Pair p v) = correct-other start size b (pairTo p v)
-call-other start size b (Out v) = correct-other start size b (outTo v)
-call-other start size b Undo = undo-other (b .applied) (b .undone)
-call-other start size b Redo = redo-other (b .applied) (b .undone)
+call-not-28-29 : (start : State) (size : ℕ) (b : History) (c : Call) → Not28Or29 (numberOf (historyCall start size b c .answer))
+call-not-28-29 start size b (Byte a v) = correct-other start size b (byteAt a v)
+call-not-28-29 start size b (Pair p v) = correct-other start size b (pairTo p v)
+call-not-28-29 start size b (Out v) = correct-other start size b (outTo v)
+call-not-28-29 start size b Undo = undo-other (b .applied) (b .undone)
+call-not-28-29 start size b Redo = redo-other (b .applied) (b .undone)
 
 history-never : (start : State) (size : ℕ) (b : History) (calls : List Call) → NoneIs28Or29 (historyAnswers start size b calls)
 history-never start size b [] = tt
-history-never start size b (c ∷ cs) = (call-other start size b c .0, call-other start size b c .1, history-never start size (historyCall start size b c .history) cs)
+history-never start size b (c ∷ cs) = (call-not-28-29 start size b c .0, call-not-28-29 start size b c .1, history-never start size (historyCall start size b c .history) cs)
 
 pub never-28-29 : (start : State) (log : List ℕ) → ValidStart start → (calls : List Call) → TypedCalls calls → NoneIs28Or29 (runAnswers journalCall (started start log) calls)
 never-28-29 start log ok calls wide = subst NoneIs28Or29 (sym (claim start log ok calls wide .answers)) (history-never start (length log) noHistory calls)

@@ -5,7 +5,7 @@ use Rattle.claim.proofs.Still.{still}
 use Rattle.claim.proofs.Never.{never-28-29}
 use Rattle.claim.proofs.Order.{first-to-last}
 use Rattle.claim.proofs.Opens.{open-start}
-use Rattle.claim.proofs.Refuted.{refuted-refuses, refuted-alters-nothing, refuted-undoes-once, refuted-counts, refuted-redo}
+use Rattle.claim.proofs.RefutedClaims.{refuted-refuses, refuted-alters-nothing, refuted-undoes-once, refuted-counts, refuted-redo}
 
 pub theorems : Theorems
 theorems =

@@ -1,4 +1,4 @@
 pub mod History
 pub mod Claim
-pub mod Wrong
+pub mod WrongCalls
 pub mod Theorems

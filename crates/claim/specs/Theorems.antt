@@ -14,7 +14,7 @@ use Rattle.five_calls.specs.declared.Call.{Call}
 use Rattle.journal.specs.Journal.{journalCall, openOf}
 use Rattle.claim.specs.History.{made}
 use Rattle.claim.specs.Claim.{ValidStart, TypedCalls, runAfter, runAnswers, ClaimOf}
-use Rattle.claim.specs.Wrong.{alwaysRefuses, altersNothing, undoesOnce, inventsCounts, redoesNothing}
+use Rattle.claim.specs.WrongCalls.{alwaysRefuses, altersNothing, undoesOnce, inventsCounts, redoesNothing}
 
 -- corrections made from the first of the list on
 abbrev pub afresh : State → List Correction → State

@@ -1,2 +1,2 @@
 pub mod Escape
-pub mod Codes
+pub mod CodesAhead

@@ -1,2 +1,2 @@
 pub mod FileSteps
-pub mod Accepted
+pub mod AcceptedBytes

@@ -15,8 +15,8 @@ use mir.Val.{boolByte}
 use borrow.Author.Count.{below-more}
 use Rattle.flags.specs.Weight.{digit, weight}
 
-pub never : true ≡ false → ⊥
-never e = let z : _≡_ {A = ℕ} 1 0 = ap digit e in omega arith
+pub true-not-false : true ≡ false → ⊥
+true-not-false e = let z : _≡_ {A = ℕ} 1 0 = ap digit e in omega arith
 
 digit-le : (b : Bool) → digit b ≤ 1
 digit-le true = omega arith
@@ -128,7 +128,7 @@ none-set (false ∷ bs) e (suc j) = none-set bs (omega arith) j
 all-clear : (bs : List Bool) → ((j : ℕ) → j < length bs → getD bs j false ≡ false) → weight bs ≡ 0
 unfolding weight
 all-clear [] n = refl
-all-clear (true ∷ bs) n = absurd (never (n 0 (omega arith)))
+all-clear (true ∷ bs) n = absurd (true-not-false (n 0 (omega arith)))
 all-clear (false ∷ bs) n = omega (arith, all-clear bs (λ j h. n (suc j) (suc-le-suc h)))
 
 -- where t is false, none of the first k flags is set
@@ -141,7 +141,7 @@ none-start c = record { reach = omega arith; none = λ e j h. absurd (not-suc-le
 
 pub neither : (t u : Bool) → t || u ≡ false → (t ≡ false) × (u ≡ false)
 neither false u e = (refl, e)
-neither true u e = absurd (never e)
+neither true u e = absurd (true-not-false e)
 
 pub none-more : (c : List Bool) (t : Bool) (k : ℕ) → NoneUpTo c t k → k < 16 → NoneUpTo c (t || getD c k false) (k + 1)
 none-more c t k g h =

@@ -134,15 +134,15 @@ module _ (s : List ℕ) where
     head-32 z k = rw (le-ltb (length s) 30 h, ← ew, eq-eqb w 0 z, lt-ltb (length s) 32 k)
 
     module _ (z : w ≡ 0) (k : 32 ≤ length s) (n : ℕ) (f : Known) (en : n ≡ wordAt s 30) (ef : f ≡ versionOf n) where
-      opened : laterHead f s ≡ headOf s
+      head-is-later : laterHead f s ≡ headOf s
       unfolding headOf
-      opened = rw (le-ltb (length s) 30 h, ← ew, eq-eqb w 0 z, le-ltb (length s) 32 k, ← en, ← ef)
+      head-is-later = rw (le-ltb (length s) 30 h, ← ew, eq-eqb w 0 z, le-ltb (length s) 32 k, ← en, ← ef)
 
       pub head-3 : f ≡ Unknown → Refused UnknownVersion ≡ headOf s
-      head-3 e = ap (λ (x : Known). laterHead x s) (sym e) ∙ opened
+      head-3 e = ap (λ (x : Known). laterHead x s) (sym e) ∙ head-is-later
 
       pub head-later : (v : Version) (r : Head) → f ≡ Is v → r ≡ laterHead (Is v) s → r ≡ headOf s
-      head-later v r e q = q ∙ ap (λ (x : Known). laterHead x s) (sym e) ∙ opened
+      head-later v r e q = q ∙ ap (λ (x : Known). laterHead x s) (sym e) ∙ head-is-later
 
 -- a version that the word names has 55 bytes or more
 pub later-long : (n : ℕ) (f : Known) (v : Version) → f ≡ versionOf n → f ≡ Is v → 55 ≤ headerLength v

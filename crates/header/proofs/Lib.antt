@@ -1,2 +1,2 @@
 pub mod HeadSteps
-pub mod Opened
+pub mod AcceptedHeads

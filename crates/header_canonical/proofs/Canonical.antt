@@ -22,12 +22,12 @@ use Rattle.header.specs.declared.Mode.the-variants.{Carried, NotCarried}
 use Rattle.header.specs.Heads.{mode3}
 use Rattle.header.specs.Inner.{Readable}
 use Rattle.header_read.specs.Reading.{machineOf}
-use Rattle.header_read.proofs.Typed.{machine-typed}
+use Rattle.header_read.proofs.MachineTyped.{machine-typed}
 use Rattle.header_write.specs.Writing.{headerOf, HeaderFor}
-use Rattle.header_write.proofs.WriteSteps.{header-length}
+use Rattle.header_write.proofs.WriteSteps.{header-86}
 use Rattle.header_canonical.specs.declared.DecodedHeader.{DecodedHeader}
 use Rattle.header_canonical.specs.Canonical.{notCanonical, decodedAs, decodedMode, decodedOf}
-use Rattle.header_canonical.proofs.Back.{machine-back}
+use Rattle.header_canonical.proofs.MachineBack.{machine-back}
 use Rattle.header_canonical.proofs.HeadBack.{mode-back}
 
 pub decoded-length : (s : List ℕ) (r : DecodedHeader) → (length s ≡ 86 → ⊥) → r ≡ notCanonical → r ≡ decodedOf s
@@ -35,15 +35,15 @@ unfolding decodedOf
 decoded-length s r h q = rw (ne-eqb (length s) 86 h) q
 
 module _ (s : List ℕ) (f : Mode) (h : length s ≡ 86) (e : f ≡ mode3 (at s 34)) where
-  opened : decodedMode f s ≡ decodedOf s
+  decoded-by-mode : decodedMode f s ≡ decodedOf s
   unfolding decodedOf
-  opened = rw (eq-eqb (length s) 86 h, ← e)
+  decoded-by-mode = rw (eq-eqb (length s) 86 h, ← e)
 
   pub taken-none : (r : DecodedHeader) → f ≡ NotCarried → r ≡ notCanonical → r ≡ decodedOf s
-  taken-none r q p = p ∙ ap (λ (x : Mode). decodedMode x s) (sym q) ∙ opened
+  taken-none r q p = p ∙ ap (λ (x : Mode). decodedMode x s) (sym q) ∙ decoded-by-mode
 
   pub decoded-mode : (model : Model) (a : Attachment) (r : DecodedHeader) → f ≡ Carried model a → r ≡ decodedAs (machineOf V3 model a s) s → r ≡ decodedOf s
-  decoded-mode model a r q p = p ∙ ap (λ (x : Mode). decodedMode x s) (sym q) ∙ opened
+  decoded-mode model a r q p = p ∙ ap (λ (x : Mode). decodedMode x s) (sym q) ∙ decoded-by-mode
 
 pub readable-86 : (model : Model) (s : List ℕ) → length s ≡ 86 → Readable V3 model s
 readable-86 model s h = record { long = omega arith; later = λ _. omega arith }
@@ -70,7 +70,7 @@ taken-made : (m : Machine) → Typed m → Valid m → decodedOf (headerOf m) �
 taken-made m t v =
     let nil : headerOf m ++ [] ≡ headerOf m = append-nil (headerOf m) in
     let b : machineOf V3 (m .model) (m .attachment) (headerOf m) ≡ m = ap (machineOf V3 (m .model) (m .attachment)) (sym nil) ∙ machine-back m [] t v in
-    sym (decoded-mode (headerOf m) (Carried (m .model) (m .attachment)) (header-length m t) (mode-is m) (m .model) (m .attachment) _ refl
+    sym (decoded-mode (headerOf m) (Carried (m .model) (m .attachment)) (header-86 m t) (mode-is m) (m .model) (m .attachment) _ refl
     (taken-good _ m (headerOf m) true (sym b) (sym (valid-true m v)) true (sym (same-refl (headerOf m))) refl refl))
 
 -- what bytes are taken as, where they are taken

@@ -29,16 +29,16 @@ pub compared-none : (s h : List ℕ) → length s ≡ length h → Compared s h 
 compared-none s h e = record { lengths = e; reach = omega arith; so-far = refl }
 
 module _ (s h : List ℕ) (i : ℕ) (t : Bool) (g : Compared s h i t) where
-  cut : (l : List ℕ) → i < length l → drop i l ≡ getD l i 0 ∷ drop (i + 1) l
-  cut l b = drop-cons l i 0 b ∙ ap (λ (k : ℕ). getD l i 0 ∷ drop k l) (sym (add-one i))
+  drop-at-next : (l : List ℕ) → i < length l → drop i l ≡ getD l i 0 ∷ drop (i + 1) l
+  drop-at-next l b = drop-cons l i 0 b ∙ ap (λ (k : ℕ). getD l i 0 ∷ drop k l) (sym (add-one i))
 
-  split : i < length s → same (drop i s) (drop i h) ≡ both (eqb (getD s i 0) (getD h i 0)) (same (drop (i + 1) s) (drop (i + 1) h))
-  split b = ap (λ (l : List ℕ). same l (drop i h)) (cut s b) ∙ ap (same (getD s i 0 ∷ drop (i + 1) s)) (cut h (rw (sym (g .lengths)) b))
+  same-next : i < length s → same (drop i s) (drop i h) ≡ both (eqb (getD s i 0) (getD h i 0)) (same (drop (i + 1) s) (drop (i + 1) h))
+  same-next b = ap (λ (l : List ℕ). same l (drop i h)) (drop-at-next s b) ∙ ap (same (getD s i 0 ∷ drop (i + 1) s)) (drop-at-next h (rw (sym (g .lengths)) b))
 
   pub compared-more : (u : Bool) → i < length s → u ≡ both t (eqb (getD s i 0) (getD h i 0)) → Compared s h (i + 1) u
   compared-more u b e =
       let rest = same (drop (i + 1) s) (drop (i + 1) h) in
-      record { lengths = g .lengths; reach = omega arith; so-far = ap (λ (v : Bool). both v rest) e ∙ both-again t (eqb (getD s i 0) (getD h i 0)) rest ∙ ap (both t) (sym (split b)) ∙ g .so-far }
+      record { lengths = g .lengths; reach = omega arith; so-far = ap (λ (v : Bool). both v rest) e ∙ both-again t (eqb (getD s i 0) (getD h i 0)) rest ∙ ap (both t) (sym (same-next b)) ∙ g .so-far }
 
   pub compared-all : length s ≤ i → t ≡ same s h
   compared-all b =

@@ -20,8 +20,8 @@ use Rattle.header.specs.Heads.{mode3, modeOf, clockHead, headOf}
 use Rattle.header.proofs.HeadSteps.{clock-good, mode-3, later-good, head-later}
 use Rattle.header_pieces.specs.Pieces.{videoBits, modeByte}
 use Rattle.header_write.specs.Writing.{headerOf}
-use Rattle.header_write.proofs.WriteSteps.{header-length}
-use Rattle.header_canonical.proofs.Back.{im-back, low-back, high-back, zero-back}
+use Rattle.header_write.proofs.WriteSteps.{header-86}
+use Rattle.header_canonical.proofs.MachineBack.{im-back, low-back, high-back, zero-back}
 
 pub mode-back : (k : Model) (a : Attachment) → mode3 (modeByte k a) ≡ Carried k a
 mode-back K48 Nothing = refl
@@ -43,8 +43,8 @@ module _ (m : Machine) (rest : List ℕ) (t : Typed m) (v : Valid m) where
   abbrev whole : List ℕ
   whole = headerOf m ++ rest
 
-  long : 86 ≤ length whole
-  long = omega (arith, length-append (headerOf m) rest, header-length m t)
+  whole-long : 86 ≤ length whole
+  whole-long = omega (arith, length-append (headerOf m) rest, header-86 m t)
 
   im-good : at whole 29 % 4 ≡ 3 → ⊥
   unfolding headerOf
@@ -73,5 +73,5 @@ module _ (m : Machine) (rest : List ℕ) (t : Typed m) (v : Valid m) where
       clock-good k a whole (quarter k) (wordAt whole 55) refl refl
       (subst (λ (x : ℕ). x < quarter k) (sym (low-back m rest t)) (low-below k (m .position)))
       (subst (λ (x : ℕ). x ≤ 3) (sym (high-back m rest t)) (high-below k (m .position))) (zero-back m rest t) in
-      sym (head-later whole (omega (arith, long)) 0 no-pc refl (omega (arith, long)) 54 (Is V3) is-54 refl V3 _ refl
-      (later-good V3 whole 86 refl (Carried k a) long is-mode k a _ refl (mode-3 V3 k a whole im-good _ refl clock)))
+      sym (head-later whole (omega (arith, whole-long)) 0 no-pc refl (omega (arith, whole-long)) 54 (Is V3) is-54 refl V3 _ refl
+      (later-good V3 whole 86 refl (Carried k a) whole-long is-mode k a _ refl (mode-3 V3 k a whole im-good _ refl clock)))

@@ -1,4 +1,4 @@
-pub mod Back
+pub mod MachineBack
 pub mod HeadBack
 pub mod Canonical
 pub mod Compared

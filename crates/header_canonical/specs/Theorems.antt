@@ -17,7 +17,7 @@ pub record Theorems : Type 0 where
   pub head-back : (m : Machine) (head rest : List ℕ) → HeaderFor m head → headOf (head ++ rest) ≡ Header V3 (m .model) (m .attachment)
   pub machine-back : (m : Machine) (head rest : List ℕ) → HeaderFor m head → machineOf V3 (m .model) (m .attachment) (head ++ rest) ≡ m
   -- "the 86-byte v3 header"
-  pub header-length : (m : Machine) (head : List ℕ) → HeaderFor m head → length head ≡ 86
+  pub header-86 : (m : Machine) (head : List ℕ) → HeaderFor m head → length head ≡ 86
   -- "bytes that our writer makes" are exactly the headers of valid machines: these are taken as their machine, and no others
   pub decoded-back : (m : Machine) (head : List ℕ) → HeaderFor m head → decodedOf head ≡ record { canonical = true; machine = m }
   pub decoded-same : (s : List ℕ) → decodedOf s .canonical ≡ true → s ≡ headerOf (decodedOf s .machine)

@@ -1,3 +1,3 @@
 pub mod ReadSteps
-pub mod Valid
-pub mod Typed
+pub mod MachineValid
+pub mod MachineTyped

@@ -37,6 +37,6 @@ pub all-put : (m : Machine) (d f g b : List ℕ) → length (m .sound) ≡ 16 �
 unfolding headerOf
 all-put m d f g b hs he h p q r = rw (r, q, p) (six-puts d _ _ _ _ _ _ refl refl refl hs refl he h)
 
-pub header-length : (m : Machine) → Typed m → length (headerOf m) ≡ 86
+pub header-86 : (m : Machine) → Typed m → length (headerOf m) ≡ 86
 unfolding headerOf
-header-length m t = simp length-append (omega (arith, t .sound, t .side))
+header-86 m t = simp length-append (omega (arith, t .sound, t .side))

@@ -16,7 +16,7 @@ use Rattle.session.specs.declared.Done.{Done}
 use Rattle.five_calls.specs.declared.Call.{Call}
 use Rattle.session.specs.Session.{CallResult, sessionOn, resultOf}
 use Rattle.journal.specs.Journal.{journalCall}
-use Rattle.journal_bytes.specs.Calls.{buffers, answeredBy, callOn, snapCall, CallLeaves}
+use Rattle.journal_bytes.specs.Calls.{buffers, answeredBy, overBytes, snapCall, CallLeaves}
 use Rattle.journal_bytes.specs.Inner.{PutBack}
 
 pub header-back : (m : Machine) (head made : List ℕ) → length head ≡ 86 → made ≡ headerOf m ++ drop 86 head → made ≡ headerOf m
@@ -25,14 +25,14 @@ header-back m head made l e = e ∙ ap (λ (x : List ℕ). headerOf m ++ x) (dro
 module _ (c : Call) (head area log : List ℕ) (s t : ℕ) (k : DecodedHeader) (e : k ≡ decodedOf head) where
   pub call-refused : (r : ℕ) → k .canonical ≡ false → r ≡ numberOf (Refused InvalidMachine)
       → CallLeaves (snapCall c (buffers head area log s t)) r (buffers head area log s t)
-  unfolding callOn
+  unfolding overBytes
   call-refused r h q = rw (← e, h) (record { answer = q; left = refl })
 
-  pub call-made : (d : Done) (r : ℕ) (head′ area′ log′ : List ℕ) (s′ t′ : ℕ) → k .canonical ≡ true
+  pub call-leaves : (d : Done) (r : ℕ) (head′ area′ log′ : List ℕ) (s′ t′ : ℕ) → k .canonical ≡ true
       → resultOf d area′ log′ ≡ journalCall c (sessionOn (k .machine) area log (record { standing = s; total = t })) → PutBack d r head′ s′ t′
       → CallLeaves (snapCall c (buffers head area log s t)) r (buffers head′ area′ log′ s′ t′)
-  unfolding callOn
-  call-made d r head′ area′ log′ s′ t′ h q p =
+  unfolding overBytes
+  call-leaves d r head′ area′ log′ s′ t′ h q p =
       rw (← e, h)
       (record {
         answer = p .answer ∙ ap (λ (x : CallResult). numberOf (x .answer)) q;

@@ -55,12 +55,12 @@ answeredBy x = record { answer = numberOf (x .answer); left = sessionBytes (x .s
 abbrev pub onDecoded : DecodedHeader → (Session → CallResult) → Buffers → Answered
 onDecoded t f b = choose (t .canonical) (answeredBy (f (sessionFor (t .machine) b))) (record { answer = badHeader; left = b })
 
-unfoldable pub callOn : (Session → CallResult) → Buffers → Answered
-callOn f b = onDecoded (decodedOf (b .header)) f b
+unfoldable pub overBytes : (Session → CallResult) → Buffers → Answered
+overBytes f b = onDecoded (decodedOf (b .header)) f b
 
 -- a call over bytes, as the contracts of the exported functions say it
 abbrev pub snapCall : Call → Buffers → Answered
-snapCall c b = callOn (journalCall c) b
+snapCall c b = overBytes (journalCall c) b
 
 -- the promise of a call: the number and every byte are the definition's
 pub record CallLeaves (x : Answered) (r : ℕ) (b : Buffers) : Type 0 where

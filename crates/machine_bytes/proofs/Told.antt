@@ -21,11 +21,11 @@ use Rattle.machine_bytes.specs.Looks.{modelNumber, attachmentNumber, mod
 
 -- a page and an offset are no wider than the figures that tell them
 module _ (k : Model) (out a : ℕ) (f : Place) (e : f ≡ placeOf k out a) (h : a < 65536) (p o : ℕ) (q : f ≡ Ram p o) where
-  pub page-fits : p < 256
-  page-fits = let i = place-inside k out a p o h (sym e ∙ q) in omega (arith, i .small)
+  pub place-page-fits : p < 256
+  place-page-fits = let i = place-inside k out a p o h (sym e ∙ q) in omega (arith, i .small)
 
-  pub offset-fits : o < 65536
-  offset-fits = let i = place-inside k out a p o h (sym e ∙ q) in omega (arith, i .low)
+  pub place-offset-fits : o < 65536
+  place-offset-fits = let i = place-inside k out a p o h (sym e ∙ q) in omega (arith, i .low)
 
 module _ (head : List ℕ) (k : DecodedHeader) (e : k ≡ decodedOf head) (r : ℕ) where
   module _ (h : k .canonical ≡ false) (q : r ≡ numberOf (Refused InvalidMachine)) where
@@ -56,10 +56,10 @@ module _ (head : List ℕ) (k : DecodedHeader) (e : k ≡ decodedOf head) (r : �
       pair-told p v b ev = rw (← e, h, le-ltb 11 p b) (record { answer = q; value = ev })
 
       module _ (a : ℕ) (f : Place) (ef : f ≡ placeOf (k .machine .model) (k .machine .out7ffd) a) where
-        pub in-rom : f ≡ Rom → TellsPlace (addressOf head a) r 1 0 0
+        pub told-rom : f ≡ Rom → TellsPlace (addressOf head a) r 1 0 0
         unfolding addressOf
-        in-rom g = rw (← e, h, ← ef, g) (record { answer = q; rom = refl; page = refl; offset = refl })
+        told-rom g = rw (← e, h, ← ef, g) (record { answer = q; rom = refl; page = refl; offset = refl })
 
-        pub in-ram : (p o p' o' : ℕ) → f ≡ Ram p o → p' ≡ p → o' ≡ o → TellsPlace (addressOf head a) r 0 p' o'
+        pub told-ram : (p o p' o' : ℕ) → f ≡ Ram p o → p' ≡ p → o' ≡ o → TellsPlace (addressOf head a) r 0 p' o'
         unfolding addressOf
-        in-ram p o p' o' g ep eo = rw (← e, h, ← ef, g) (record { answer = q; rom = refl; page = ep; offset = eo })
+        told-ram p o p' o' g ep eo = rw (← e, h, ← ef, g) (record { answer = q; rom = refl; page = ep; offset = eo })

@@ -5,7 +5,7 @@ use mathlib.Core.Path.{_≡_, refl, ap, _∙_}
 use mathlib.Core.List.{List}
 use lib.ListN.{length, getD, drop, length-append, length-replicate, drop-of-length-le}
 use Rattle.packed.specs.Packed.{packed}
-use Rattle.packed.specs.Packed.Steps.{packed-nil}
+use Rattle.packed.specs.Packed.CodeLaws.{packed-nil}
 use Rattle.packed.specs.Packed.Promise.{packed-short}
 use Rattle.runs.specs.Inner.{RunLeft}
 use Rattle.runs.proofs.RunCodes.{Coded, next-run-ed, next-run, next-short, next-single, next-last}

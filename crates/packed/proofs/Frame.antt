@@ -8,7 +8,7 @@ use lib.ListN.{length, take, drop, length-drop}
 use lib.Seq.{drop-drop, length-take-le}
 use Rattle.packed.specs.Packed.{Found, malformed, bytes, before, packed}
 use Rattle.slices.specs.Put.{put}
-use Rattle.stores.proofs.Written.{Stored, put-front}
+use Rattle.stores.proofs.StoredBytes.{Stored, put-front}
 
 pub before-nil : (u : Found) → before [] u ≡ u
 before-nil malformed = refl
@@ -19,7 +19,7 @@ before-before xs ys malformed = refl
 before-before xs ys (bytes zs) = ap bytes (sym (append-assoc xs ys zs))
 
 -- what is at i stands for ws under f, and reading goes on at j
-pub record Next (f : List ℕ → Found) (s : List ℕ) (i : ℕ) (ws : List ℕ) (j : ℕ) : Type 0 where
+pub record StandsFor (f : List ℕ → Found) (s : List ℕ) (i : ℕ) (ws : List ℕ) (j : ℕ) : Type 0 where
   pub step : f (drop i s) ≡ before ws (f (drop j s))
   pub inside : j ≤ length s
 
@@ -46,7 +46,7 @@ pub frame-none : (f : List ℕ → Found) (s d : List ℕ) → Frame f (f s) s d
 frame-none f s d = record { reach = omega arith; room = omega arith; long = refl; same = sym (before-nil (f s)) }
 
 module _ (f : List ℕ → Found) (u : Found) (s d₀ d : List ℕ) (i o : ℕ) (g : Frame f u s d₀ d i o) (d′ : List ℕ) where
-  pub onward : (ws : List ℕ) (j o′ : ℕ) → Next f s i ws j → Stored d o ws d′ → o + length ws ≡ o′ → o′ ≤ length d → Frame f u s d₀ d′ j o′
+  pub onward : (ws : List ℕ) (j o′ : ℕ) → StandsFor f s i ws j → Stored d o ws d′ → o + length ws ≡ o′ → o′ ≤ length d → Frame f u s d₀ d′ j o′
   onward ws j o′ n p e h =
       record {
         reach = n .inside;

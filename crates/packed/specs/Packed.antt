@@ -1,6 +1,6 @@
 -- Document 01, "Packed data": what packed data stand for, and how bytes are packed.
 -- The definitions are shut: outside this file and Packed/ only the laws of Packed/ speak of them.
-pub mod Steps
+pub mod CodeLaws
 pub mod Promise
 pub mod Examples
 use Prim.Native.Nat.{ℕ, zero, suc, _-_, min}

@@ -13,7 +13,7 @@ use Rattle.pages.specs.declared.Model.{Model}
 use Rattle.pages.specs.declared.Model.the-variants.{K48, K128}
 use Rattle.pages.specs.declared.Place.the-variants.{Rom, Ram}
 use Rattle.pages.specs.Pages.{owned, topPage, placeOf, pageIn}
-use Rattle.pages.proofs.Places.{owned-all}
+use Rattle.pages.proofs.PageSteps.{owned-all}
 
 pub page-long : (area : List ℕ) (page : ℕ) → length area ≡ 131072 → page < 8 → length (pageIn area page) ≡ 16384
 page-long area page h k = length-take-le 16384 (drop (page * 16384) area) (simp length-drop (omega arith))

@@ -14,7 +14,7 @@ use Rattle.flags.specs.Weight.{weight}
 use Rattle.flags.specs.Places.{Flagged, Seen, First, Ahead}
 use Rattle.flags.proofs.Places.{seen-flags, seen-clear, seen-first, some-set, first-few}
 use Rattle.runs.specs.Inner.{RunLeft, unlikeAt}
-use Rattle.stores.proofs.Written.{at-block}
+use Rattle.stores.proofs.StoredBytes.{at-block}
 use Rattle.runs.proofs.RunLength.{Running, running-one, running-more, run-stops, run-full}
 
 -- n bytes from i on are v
@@ -30,27 +30,27 @@ module _ (s : List ℕ) (i v : ℕ) (e : v ≡ getD s i 0) where
   stops-at (suc m) h k f g = run-stops s i v (suc m) (running-all m h k f) g
 
 -- q blocks of the run at i are found
-pub record Same (s : List ℕ) (i v q : ℕ) : Type 0 where
+pub record RunBlocks (s : List ℕ) (i v q : ℕ) : Type 0 where
   pub most : q ≤ 16
   pub inside : i + 16 * q ≤ length s
   pub value : v ≡ getD s i 0
   pub each : (j : ℕ) → j < 16 * q → getD s (i + j) 0 ≡ v
 
-pub same-none : (s : List ℕ) (i : ℕ) → i < length s → Same s i (getD s i 0) 0
-same-none s i h = record { most = omega arith; inside = omega arith; value = refl; each = λ j l. absurd (not-suc-le-zero l) }
+pub run-blocks-none : (s : List ℕ) (i : ℕ) → i < length s → RunBlocks s i (getD s i 0) 0
+run-blocks-none s i h = record { most = omega arith; inside = omega arith; value = refl; each = λ j l. absurd (not-suc-le-zero l) }
 
-pub same-full : (s : List ℕ) (i v q : ℕ) → Same s i v q → 16 ≤ q → RunLeft s i 255
-same-full s i v q g h = run-full s i v 255 (running-all s i v (g .value) 254 (omega (arith, g .inside)) (omega arith) (λ j l. g .each j (omega arith))) (omega arith)
+pub run-blocks-full : (s : List ℕ) (i v q : ℕ) → RunBlocks s i v q → 16 ≤ q → RunLeft s i 255
+run-blocks-full s i v q g h = run-full s i v 255 (running-all s i v (g .value) 254 (omega (arith, g .inside)) (omega arith) (λ j l. g .each j (omega arith))) (omega arith)
 
 -- whether the byte at p is not v
 abbrev isnt : List ℕ → ℕ → ℕ → Bool
 isnt s v p = not (eqb (getD s p 0) v)
 
 -- one more block, in which m flags what is not v
-module _ (s : List ℕ) (i v q : ℕ) (g : Same s i v q) (b : List ℕ) (c : List Bool) (m : ℕ) (h : q < 16) (hs : i + 16 * q + 16 ≤ length s) (eb : b ≡ take 16 (drop (i + 16 * q) s))
+module _ (s : List ℕ) (i v q : ℕ) (g : RunBlocks s i v q) (b : List ℕ) (c : List Bool) (m : ℕ) (h : q < 16) (hs : i + 16 * q + 16 ≤ length s) (eb : b ≡ take 16 (drop (i + 16 * q) s))
     (f : Flagged (isnt b v) c 16) (em : m ≡ weight c) where
-  seen : Seen (isnt s v) (i + 16 * q) 16 m
-  seen =
+  others-seen : Seen (isnt s v) (i + 16 * q) 16 m
+  others-seen =
       seen-flags (isnt s v) (isnt b v) (i + 16 * q) c m f em
       (λ j l. ap (λ (x : ℕ). not (eqb x v)) (at-block s b (i + 16 * q) j eb l))
 
@@ -64,13 +64,13 @@ module _ (s : List ℕ) (i v q : ℕ) (g : Same s i v q) (b : List ℕ) (c : Lis
           let x : i + 16 * q + (j - 16 * q) ≡ i + j = omega arith in
           eqb-true _ _ (not-false _ (ap (isnt s v) (sym x) ∙ n (j - 16 * q) (omega arith)))
 
-  pub same-more : m ≡ 0 → Same s i v (q + 1)
-  same-more z =
-      record { most = omega arith; inside = omega arith; value = g .value; each = λ j l. more 16 (seen-clear (isnt s v) (i + 16 * q) 16 m seen z) j (omega arith) }
+  pub run-blocks-more : m ≡ 0 → RunBlocks s i v (q + 1)
+  run-blocks-more z =
+      record { most = omega arith; inside = omega arith; value = g .value; each = λ j l. more 16 (seen-clear (isnt s v) (i + 16 * q) 16 m others-seen z) j (omega arith) }
 
-  pub same-stops : (m ≡ 0 → ⊥) → (k : ℕ) → k ≡ trailingZeros 64 m → RunLeft s i (16 * q + k)
-  same-stops z k ek =
-      let w : First (isnt s v) (i + 16 * q) 16 k = subst (First (isnt s v) (i + 16 * q) 16) (sym ek) (seen-first (isnt s v) (i + 16 * q) 16 m seen (omega arith) z) in
+  pub run-blocks-stop : (m ≡ 0 → ⊥) → (k : ℕ) → k ≡ trailingZeros 64 m → RunLeft s i (16 * q + k)
+  run-blocks-stop z k ek =
+      let w : First (isnt s v) (i + 16 * q) 16 k = subst (First (isnt s v) (i + 16 * q) 16) (sym ek) (seen-first (isnt s v) (i + 16 * q) 16 m others-seen (omega arith) z) in
       let x : i + 16 * q + k ≡ i + (16 * q + k) = omega arith in
       stops-at s i v (g .value) (16 * q + k) (omega (arith, w .inside)) (omega (arith, w .inside)) (more k (w .before))
       (eqb-false _ _ (not-true _ (ap (isnt s v) (sym x) ∙ w .here)))

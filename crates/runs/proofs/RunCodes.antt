@@ -7,7 +7,7 @@ use mathlib.Core.List.{List, [], _∷_, _++_}
 use lib.ListN.{length, getD, take, drop, replicate, drop-of-length-le}
 use lib.Seq.{drop-drop, drop-cons}
 use Rattle.packed.specs.Packed.{front, packed}
-use Rattle.packed.specs.Packed.Steps.{run-code, single-code, short-code}
+use Rattle.packed.specs.Packed.CodeLaws.{run-code, single-code, short-code}
 use Rattle.runs.specs.Inner.{runAt, RunLeft}
 
 -- what is at i packs to ws, and packing goes on at j
@@ -16,13 +16,13 @@ pub record Coded (s : List ℕ) (i : ℕ) (ws : List ℕ) (j : ℕ) : Type 0 whe
   pub inside : j ≤ length s
 
 module _ (s : List ℕ) (i : ℕ) (h : i < length s) where
-  split : drop i s ≡ getD s i 0 ∷ drop (i + 1) s
-  split = drop-cons s i 0 h ∙ ap (λ (k : ℕ). getD s i 0 ∷ drop k s) (sym (add-one i))
+  drop-here : drop i s ≡ getD s i 0 ∷ drop (i + 1) s
+  drop-here = drop-cons s i 0 h ∙ ap (λ (k : ℕ). getD s i 0 ∷ drop k s) (sym (add-one i))
 
-  next-at : (ws : List ℕ) (k j : ℕ) → packed (getD s i 0 ∷ drop (i + 1) s) ≡ ws ++ packed (drop k (drop (i + 1) s)) → i + 1 + k ≡ j → j ≤ length s → Coded s i ws j
-  next-at ws k j e m l =
+  coded-next : (ws : List ℕ) (k j : ℕ) → packed (getD s i 0 ∷ drop (i + 1) s) ≡ ws ++ packed (drop k (drop (i + 1) s)) → i + 1 + k ≡ j → j ≤ length s → Coded s i ws j
+  coded-next ws k j e m l =
       record {
-        step = ap packed split ∙ e ∙ ap (λ (z : List ℕ). ws ++ packed z) (drop-drop k (i + 1) s ∙ ap (λ (m : ℕ). drop m s) m);
+        step = ap packed drop-here ∙ e ∙ ap (λ (z : List ℕ). ws ++ packed z) (drop-drop k (i + 1) s ∙ ap (λ (m : ℕ). drop m s) m);
         inside = l;
       }
 
@@ -30,7 +30,7 @@ module _ (s : List ℕ) (i : ℕ) (h : i < length s) where
     long-run : (getD s i 0 ≡ 237 → 2 ≤ runAt s i) → ((getD s i 0 ≡ 237 → ⊥) → 5 ≤ runAt s i) → Coded s i (237 ∷ 237 ∷ r ∷ getD s i 0 ∷ []) (i + r)
     long-run h k =
         rw (g .counted)
-        (next-at _ (min (runAt s i) 255 - 1) (i + min (runAt s i) 255) (run-code (getD s i 0) (drop (i + 1) s) (runAt s i) refl h k) (omega arith)
+        (coded-next _ (min (runAt s i) 255 - 1) (i + min (runAt s i) 255) (run-code (getD s i 0) (drop (i + 1) s) (runAt s i) refl h k) (omega arith)
         (omega (arith, g .counted, g .inside)))
 
     pub next-run-ed : getD s i 0 ≡ 237 → 2 ≤ r → Coded s i (237 ∷ 237 ∷ r ∷ getD s i 0 ∷ []) (i + r)
@@ -45,7 +45,7 @@ module _ (s : List ℕ) (i : ℕ) (h : i < length s) where
         let m : i + 1 + front (getD s i 0) (drop (i + 1) s) ≡ i + r = omega arith in
         record {
           step =
-              ap packed split ∙ short-code (getD s i 0) (drop (i + 1) s) e (omega arith)
+              ap packed drop-here ∙ short-code (getD s i 0) (drop (i + 1) s) e (omega arith)
               ∙ ap (λ (z : List ℕ). replicate (runAt s i) (getD s i 0) ++ packed z)
               (drop-drop (front (getD s i 0) (drop (i + 1) s)) (i + 1) s ∙ ap (λ (m : ℕ). drop m s) m)
               ∙ ap (λ (n : ℕ). replicate n (getD s i 0) ++ packed (drop (i + r) s)) (sym q);
@@ -56,14 +56,14 @@ module _ (s : List ℕ) (i : ℕ) (h : i < length s) where
     next-single e k l =
         subst (λ (ws : List ℕ). Coded s i ws (i + 2))
         (ap (λ (z : List ℕ). 237 ∷ take 1 z) (drop-cons s (i + 1) 0 l) ∙ ap (λ (x : ℕ). x ∷ getD s (i + 1) 0 ∷ []) (sym e))
-        (next-at _ 1 (i + 2) (single-code (getD s i 0) (drop (i + 1) s) e (omega (arith, g .counted))) (omega arith) (omega arith))
+        (coded-next _ 1 (i + 2) (single-code (getD s i 0) (drop (i + 1) s) e (omega (arith, g .counted))) (omega arith) (omega arith))
 
     pub next-last : getD s i 0 ≡ 237 → r < 2 → length s ≤ i + 1 → Coded s i (getD s i 0 ∷ []) (i + 1)
     next-last e k l =
         let z : drop (i + 1) s ≡ [] = drop-of-length-le s {i = i + 1} l in
         record {
           step =
-              ap packed split ∙ single-code (getD s i 0) (drop (i + 1) s) e (omega (arith, g .counted))
+              ap packed drop-here ∙ single-code (getD s i 0) (drop (i + 1) s) e (omega (arith, g .counted))
               ∙ ap (λ (xs : List ℕ). 237 ∷ (take 1 xs ++ packed (drop 1 xs))) z
               ∙ sym (ap (λ (xs : List ℕ). getD s i 0 ∷ packed xs) z ∙ ap (λ (x : ℕ). x ∷ packed []) e);
           inside = omega arith;

@@ -49,18 +49,18 @@ pub running-one : (s : List ℕ) (i : ℕ) → i < length s → Running s i (get
 running-one s i h = record { some = omega arith; most = omega arith; inside = omega arith; value = refl; run = omega arith }
 
 module _ (s : List ℕ) (i v n : ℕ) (g : Running s i v n) where
-  there : getD s (i + n) 0 ≡ getD (drop (i + 1) s) (n - 1) 0
-  there = let e : i + n ≡ i + 1 + (n - 1) = omega (arith, g .some) in ap (λ (k : ℕ). getD s k 0) e ∙ sym (getD-drop (i + 1) s (n - 1) 0)
+  run-byte : getD s (i + n) 0 ≡ getD (drop (i + 1) s) (n - 1) 0
+  run-byte = let e : i + n ≡ i + 1 + (n - 1) = omega (arith, g .some) in ap (λ (k : ℕ). getD s k 0) e ∙ sym (getD-drop (i + 1) s (n - 1) 0)
 
   pub running-more : n < 255 → i + n < length s → getD s (i + n) 0 ≡ v → Running s i v (n + 1)
   running-more h k e =
       let q : n - 1 < front (getD s i 0) (drop (i + 1) s) =
-      front-more (getD s i 0) (drop (i + 1) s) (n - 1) (omega (arith, g .run)) (simp length-drop (omega (arith, g .some))) (sym there ∙ e ∙ g .value) in
+      front-more (getD s i 0) (drop (i + 1) s) (n - 1) (omega (arith, g .run)) (simp length-drop (omega (arith, g .some))) (sym run-byte ∙ e ∙ g .value) in
       record { some = omega arith; most = omega arith; inside = omega arith; value = g .value; run = omega (arith, g .some) }
 
   pub run-stops : (getD s (i + n) 0 ≡ v → ⊥) → RunLeft s i n
   run-stops h =
-      let q : n - 1 < front (getD s i 0) (drop (i + 1) s) → ⊥ = λ z. h (there ∙ front-at (getD s i 0) (drop (i + 1) s) (n - 1) z ∙ sym (g .value)) in
+      let q : n - 1 < front (getD s i 0) (drop (i + 1) s) → ⊥ = λ z. h (run-byte ∙ front-at (getD s i 0) (drop (i + 1) s) (n - 1) z ∙ sym (g .value)) in
       record { counted = omega (arith, g .some, g .most, g .run); inside = g .inside }
 
   pub run-ends : length s ≤ i + n → RunLeft s i n

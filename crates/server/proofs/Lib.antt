@@ -1,3 +1,3 @@
-pub mod Claim
-pub mod Turns
+pub mod ByteClaim
+pub mod CallsSoFar
 pub mod Theorems

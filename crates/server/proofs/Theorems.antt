@@ -1,6 +1,6 @@
 -- The one value of the record of theorems.
 use Rattle.server.specs.Theorems.{Theorems}
-use Rattle.server.proofs.Claim.{byte-claim}
+use Rattle.server.proofs.ByteClaim.{byte-claim}
 
 pub theorems : Theorems
 theorems = record { byte-claim = byte-claim }

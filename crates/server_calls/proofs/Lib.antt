@@ -1,3 +1,3 @@
-pub mod Still
+pub mod BytesStill
 pub mod Made
 pub mod Theorems

@@ -5,11 +5,11 @@ use mathlib.Core.List.{List}
 use lib.ListN.{length, getD}
 use Rattle.header_write.specs.Writing.{HeaderFor}
 use Rattle.z80read.specs.Read.{readOf}
-use Rattle.z80read.proofs.Typed.{read-typed}
+use Rattle.z80read.proofs.ReadTyped.{read-typed}
 use Rattle.z80file.proofs.File.{read-start}
 use Rattle.file_bytes.specs.Files.{ReadBytes, readOfBytes, ReadsBytes}
 use Rattle.journal_bytes.specs.Calls.{Buffers}
-use Rattle.file_bytes.proofs.Accepted.{read-0}
+use Rattle.file_bytes.proofs.AcceptedBytes.{read-0}
 use Rattle.server.specs.Server.{startedBuffers, RanBytes, HistoryRun, Serves}
 use Rattle.server_files.specs.Opened.{ServesFile}
 

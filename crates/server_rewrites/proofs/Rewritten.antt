@@ -6,13 +6,13 @@ use mathlib.Core.List.{List}
 use lib.ListN.{getD}
 use Rattle.header_write.specs.Writing.{HeaderFor}
 use Rattle.z80read.specs.Read.{readOf}
-use Rattle.z80read.proofs.Typed.{read-typed}
-use Rattle.z80read.proofs.Lengths.{read-most}
+use Rattle.z80read.proofs.ReadTyped.{read-typed}
+use Rattle.z80read.proofs.ReadLengths.{read-most}
 use Rattle.z80write.proofs.Longest.{file-most}
 use Rattle.z80file.specs.Clean.{Clean}
 use Rattle.z80file.proofs.File.{read-start}
 use Rattle.file_bytes.specs.Files.{ReadBytes, readOfBytes, writeOfBytes, ReadsBytes, WritesBytes}
-use Rattle.file_bytes.proofs.Accepted.{read-0}
+use Rattle.file_bytes.proofs.AcceptedBytes.{read-0}
 use Rattle.server_trips.proofs.Trips.{trip}
 use Rattle.server_rewrites.specs.Rewrites.{ReadsThenWrites}
 

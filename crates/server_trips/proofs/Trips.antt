@@ -14,11 +14,11 @@ use Rattle.header_canonical.specs.Canonical.{decodedOf, badHeader}
 use Rattle.header_canonical.proofs.Canonical.{decoded-back}
 use Rattle.z80read.specs.Read.{readOf}
 use Rattle.z80write.specs.Written.{fileOf, acceptedWrite, writtenOf}
-use Rattle.z80write.proofs.Whole.{room}
+use Rattle.z80write.proofs.FileWritten.{written-fits}
 use Rattle.z80file.specs.Clean.{Clean}
 use Rattle.z80file.proofs.File.{file-back, length-inside}
 use Rattle.file_bytes.specs.Files.{ReadBytes, WriteBytes, readInBytes, readOfBytes, writtenInBytes, writeDecoded, writeOfBytes, ReadsBytes, WritesBytes}
-use Rattle.file_bytes.proofs.Accepted.{write-decoded-as}
+use Rattle.file_bytes.proofs.AcceptedBytes.{write-decoded-as}
 use Rattle.server_trips.specs.Trips.{WritesThenReads}
 
 read-whole : (file : List ℕ) → readOfBytes file 131072 86 ≡ readInBytes (readOf file 131072)
@@ -46,7 +46,7 @@ trip m head area n w size out f c h p =
     let file = fileOf m area in
     let o : writeOfBytes head area n ≡ writtenInBytes (acceptedWrite file n)
     = write-decoded-as m head area n (decoded-back m head f)
-    ∙ ap writtenInBytes (room m area n (f .valid) (c .long) h) in
+    ∙ ap writtenInBytes (written-fits m area n (f .valid) (c .long) h) in
     let wrote : take size out ≡ file
     = (λ i. take (p .size i) (p .out i)) ∙ ap (λ (x : WriteBytes). take (x .size) (x .out)) o ∙ take-at file (replicate (n - length file) 0) (length file) refl in (
       p .answer ∙ ap (λ (x : WriteBytes). x .answer) o,

@@ -22,11 +22,11 @@ pub looked-none : (s : List ℕ) → ZeroSoFar s 0 true
 looked-none s = record { reach = omega arith; so-far = refl }
 
 module _ (s : List ℕ) (i : ℕ) (t : Bool) (g : ZeroSoFar s i t) where
-  split : i < length s → zeros (drop i s) ≡ both (eqb (getD s i 0) 0) (zeros (drop (i + 1) s))
-  split h = ap zeros (drop-cons s i 0 h ∙ ap (λ (k : ℕ). getD s i 0 ∷ drop k s) (sym (add-one i)))
+  zeros-next : i < length s → zeros (drop i s) ≡ both (eqb (getD s i 0) 0) (zeros (drop (i + 1) s))
+  zeros-next h = ap zeros (drop-cons s i 0 h ∙ ap (λ (k : ℕ). getD s i 0 ∷ drop k s) (sym (add-one i)))
 
   pub looked-more : (u : Bool) → i < length s → u ≡ both t (eqb (getD s i 0) 0) → ZeroSoFar s (i + 1) u
-  looked-more u h e = record { reach = omega arith; so-far = ap (λ (v : Bool). both v (zeros (drop (i + 1) s))) e ∙ both-again t (eqb (getD s i 0) 0) (zeros (drop (i + 1) s)) ∙ ap (both t) (sym (split h)) ∙ g .so-far }
+  looked-more u h e = record { reach = omega arith; so-far = ap (λ (v : Bool). both v (zeros (drop (i + 1) s))) e ∙ both-again t (eqb (getD s i 0) 0) (zeros (drop (i + 1) s)) ∙ ap (both t) (sym (zeros-next h)) ∙ g .so-far }
 
   pub looked-all : length s ≤ i → t ≡ zeros s
   looked-all h = sym (both-end t) ∙ ap (λ (l : List ℕ). both t (zeros l)) (sym (drop-of-length-le s {i = i} h)) ∙ g .so-far

@@ -10,14 +10,14 @@ use lib.Seq.{getD-drop, drop-drop, take-all, length-take-le}
 use lib.Dec.{eqb}
 use borrow.Author.Tests.{ne-eqb, eq-eqb}
 use Rattle.packed.specs.Packed.{Found, malformed, bytes, before, run, unpacked}
-use Rattle.packed.specs.Packed.Steps.{front-plain, front-cut, front-run, unpacked-nil}
+use Rattle.packed.specs.Packed.CodeLaws.{front-plain, front-cut, front-run, unpacked-nil}
 use Rattle.packed.specs.Unpacking.{answerOf, leftBy, Unpacks}
 use Rattle.packed.specs.Inner.{over}
 use Rattle.codes.specs.Inner.{escapeAt}
 use Rattle.codes.proofs.Escape.{escape-there}
 use Rattle.slices.specs.Choose.{choose}
 use Rattle.slices.specs.Put.{put}
-use Rattle.stores.proofs.Written.{stored-put, put-fewer}
+use Rattle.stores.proofs.StoredBytes.{stored-put, put-fewer}
 use Rattle.packed.proofs.Frame.{Frame, onward}
 use Rattle.packed.specs.declared.Unpacked.{Unpacked}
 use Rattle.packed.specs.declared.Unpacked.the-variants.{Good, WrongLength, Malformed}
@@ -91,9 +91,9 @@ left-refused (bytes xs) n h = go (eqb (length xs) n) h
     go true h = absurd (h refl)
     go false h = refl
 
-full : (xs ys : List ℕ) (w : Found) (n : ℕ) → n < length xs + length ys → over (before ys w) ≡ answerOf (before xs (before ys w)) n
-full xs ys malformed n h = refl
-full xs ys (bytes zs) n h =
+over-full : (xs ys : List ℕ) (w : Found) (n : ℕ) → n < length xs + length ys → over (before ys w) ≡ answerOf (before xs (before ys w)) n
+over-full xs ys malformed n h = refl
+over-full xs ys (bytes zs) n h =
     let l : length (xs ++ (ys ++ zs)) ≡ length xs + (length ys + length zs) = length-append xs (ys ++ zs) ∙ ap (λ (m : ℕ). length xs + m) (length-append ys zs) in
     simp (ne-eqb (length (xs ++ (ys ++ zs))) n (λ e. omega arith))
 
@@ -112,7 +112,7 @@ module _ (u : Found) (s d₀ d : List ℕ) (i o : ℕ) (g : Frame unpacked u s d
     over-into ys w er eu h =
         let l : length (take o d) ≡ o = length-take-le o d (g .room) in
         refused-into
-        (er ∙ ap over eu ∙ full (take o d) ys w (length d₀) (omega (arith, g .long))
+        (er ∙ ap over eu ∙ over-full (take o d) ys w (length d₀) (omega (arith, g .long))
         ∙ ap (λ (u : Found). answerOf u (length d₀)) (sym (g .same ∙ ap (before (take o d)) eu)))
         (unpacked (drop i s)) er
 
@@ -133,8 +133,8 @@ module _ (u : Found) (s d₀ d : List ℕ) (i o : ℕ) (g : Frame unpacked u s d
     cut-into a d′ h t c = bad-into Malformed a d′ c refl (step-cut s i r e h t)
 
     module _ (n : ℕ) (h : i + 4 ≤ length s) (t : r ≡ true) (en : n ≡ getD s (i + 2) 0) where
-      stands : (n ≡ 0 → ⊥) → unpacked (drop i s) ≡ before (replicate n (getD s (i + 3) 0)) (unpacked (drop (i + 4) s))
-      stands z =
+      run-stands : (n ≡ 0 → ⊥) → unpacked (drop i s) ≡ before (replicate n (getD s (i + 3) 0)) (unpacked (drop (i + 4) s))
+      run-stands z =
           step-run s i r e h t ∙ ap (λ (m : ℕ). run m (getD s (i + 3) 0) (unpacked (drop (i + 4) s))) (sym en) ∙ rw (ne-eqb n 0 z)
 
       pub zero-into : (a : Unpacked) (d′ : List ℕ) → n ≡ 0 → (a ≡ Malformed) × (d′ ≡ replicate (length d) 0) → Unpacks u (length d₀) a d′
@@ -143,14 +143,14 @@ module _ (u : Found) (s d₀ d : List ℕ) (i o : ℕ) (g : Frame unpacked u s d
       pub full-run : (why a : Unpacked) (d′ : List ℕ) → (n ≡ 0 → ⊥) → length d < o + n → why ≡ over (unpacked (drop i s)) → (a ≡ why) × (d′ ≡ replicate (length d) 0)
           → Unpacks u (length d₀) a d′
       full-run why a d′ z k p c =
-          over-into why a d′ c (replicate n (getD s (i + 3) 0)) (unpacked (drop (i + 4) s)) p (stands z) (omega (arith, length-replicate n (getD s (i + 3) 0)))
+          over-into why a d′ c (replicate n (getD s (i + 3) 0)) (unpacked (drop (i + 4) s)) p (run-stands z) (omega (arith, length-replicate n (getD s (i + 3) 0)))
 
       -- m of the byte were stored, of which n count
       pub going-stored : (d′ : List ℕ) (m : ℕ) → d′ ≡ put d o (replicate m (getD s (i + 3) 0)) → (n ≡ 0 → ⊥) → n ≤ m → o + m ≤ length d
           → Frame unpacked u s d₀ d′ (i + 4) (o + n)
       going-stored d′ m p z few k =
           let v = getD s (i + 3) 0 in
-          onward unpacked u s d₀ d i o g d′ (replicate n v) (i + 4) (o + n) (record { step = stands z; inside = h })
+          onward unpacked u s d₀ d i o g d′ (replicate n v) (i + 4) (o + n) (record { step = run-stands z; inside = h })
           (put-fewer d d′ o n m v few k (stored-put d d′ (replicate m v) o (omega (arith, length-replicate m v)) p)) (ap (λ (m : ℕ). o + m) (length-replicate n v))
           (omega arith)
 
@@ -158,17 +158,17 @@ module _ (u : Found) (s d₀ d : List ℕ) (i o : ℕ) (g : Frame unpacked u s d
       going-run d′ p z k = going-stored d′ n p z (omega arith) k
 
   -- all is read
-  whole : length s ≤ i → u ≡ bytes (take o d)
-  whole h = g .same ∙ ap (before (take o d)) (step-end s i h) ∙ ap bytes (append-nil (take o d))
+  all-read : length s ≤ i → u ≡ bytes (take o d)
+  all-read h = g .same ∙ ap (before (take o d)) (step-end s i h) ∙ ap bytes (append-nil (take o d))
 
   pub good-into : length s ≤ i → o ≡ length d → Unpacks u (length d₀) Good d
   good-into h e =
       let l : length (take o d) ≡ o = length-take-le o d (g .room) in
       let q : eqb (length (take o d)) (length d₀) ≡ true = eq-eqb (length (take o d)) (length d₀) (omega (arith, g .long)) in
-      record { answer = rw (whole h, q); memory = rw (whole h, q) (sym (take-all o d (omega arith))) }
+      record { answer = rw (all-read h, q); memory = rw (all-read h, q) (sym (take-all o d (omega arith))) }
 
   pub wrong-into : (a : Unpacked) (d′ : List ℕ) → length s ≤ i → (o ≡ length d → ⊥) → (a ≡ WrongLength) × (d′ ≡ replicate (length d) 0) → Unpacks u (length d₀) a d′
   wrong-into a d′ h e c =
       let l : length (take o d) ≡ o = length-take-le o d (g .room) in
       let q : eqb (length (take o d)) (length d₀) ≡ false = ne-eqb (length (take o d)) (length d₀) (λ z. e (omega (arith, g .long))) in
-      refused-into WrongLength a d′ c (rw (whole h, q)) (bytes []) refl
+      refused-into WrongLength a d′ c (rw (all-read h, q)) (bytes []) refl

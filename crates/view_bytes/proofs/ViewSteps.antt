@@ -20,17 +20,17 @@ module _ (head : List ℕ) (rom area page : ℕ) (k : DecodedHeader) (e : k ≡ 
   show-refused r h q = rw (← e, h) (record { answer = q; rom = refl; start = refl; size = refl })
 
   module _ (h : k .canonical ≡ true) (p : Part) (ep : p ≡ partFor (viewAnswer (k .machine) rom area page) page) (a : Answer) (ea : a ≡ viewAnswer (k .machine) rom area page) (r : ℕ) (er : r ≡ numberOf a) where
-    number : r ≡ numberOf (viewAnswer (k .machine) rom area page)
-    number = er ∙ ap numberOf ea
+    number-is : r ≡ numberOf (viewAnswer (k .machine) rom area page)
+    number-is = er ∙ ap numberOf ea
 
     pub show-none : p ≡ Nowhere → Shows (showOf head rom area page) r 0 0 0
     unfolding showOf
-    show-none q = rw (← e, h, ← ep, q) (record { answer = number; rom = refl; start = refl; size = refl })
+    show-none q = rw (← e, h, ← ep, q) (record { answer = number-is; rom = refl; start = refl; size = refl })
 
     pub show-area : (from start : ℕ) → p ≡ InArea from → start ≡ from → Shows (showOf head rom area page) r 0 start 16384
     unfolding showOf
-    show-area from start q s = rw (← e, h, ← ep, q) (record { answer = number; rom = refl; start = s; size = refl })
+    show-area from start q s = rw (← e, h, ← ep, q) (record { answer = number-is; rom = refl; start = s; size = refl })
 
     pub show-rom : (from start : ℕ) → p ≡ InRom from → start ≡ from → Shows (showOf head rom area page) r 1 start 16384
     unfolding showOf
-    show-rom from start q s = rw (← e, h, ← ep, q) (record { answer = number; rom = refl; start = s; size = refl })
+    show-rom from start q s = rw (← e, h, ← ep, q) (record { answer = number-is; rom = refl; start = s; size = refl })

@@ -1,2 +1,2 @@
-pub mod Pages
+pub mod ShownPages
 pub mod Theorems

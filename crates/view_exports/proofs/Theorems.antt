@@ -1,6 +1,6 @@
 -- The one value of the record of theorems.
 use Rattle.view_exports.specs.Theorems.{Theorems}
-use Rattle.view_exports.proofs.Pages.{shown-bytes}
+use Rattle.view_exports.proofs.ShownPages.{shown-bytes}
 
 pub theorems : Theorems
 theorems = record { shown-bytes = shown-bytes }

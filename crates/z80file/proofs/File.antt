@@ -27,10 +27,10 @@ use Rattle.slices.specs.Bytes.{bitAt}
 use Rattle.header.specs.Heads.{byte12Of, headOf}
 use Rattle.header_read.specs.Reading.{machineOf}
 use Rattle.header_write.specs.Writing.{headerOf}
-use Rattle.header_write.proofs.WriteSteps.{header-length}
-use Rattle.header_canonical.proofs.Back.{machine-back}
-use Rattle.header.proofs.Opened.{opens}
-use Rattle.header_read.proofs.Valid.{machine-valid}
+use Rattle.header_write.proofs.WriteSteps.{header-86}
+use Rattle.header_canonical.proofs.MachineBack.{machine-back}
+use Rattle.header.proofs.AcceptedHeads.{opens}
+use Rattle.header_read.proofs.MachineValid.{machine-valid}
 use Rattle.header_canonical.proofs.HeadBack.{head-back}
 use Rattle.blocks.specs.Blocks.{BodyResult, bodyRefused, bodyRead, blocksInto}
 use Rattle.z80read.specs.Read.{memoryInto, ReadResult, refusedRead, afterBody, afterHead, readOf}
@@ -39,8 +39,8 @@ use Rattle.pages.specs.Pages.{slots}
 use Rattle.blocks_write.specs.Laid.{laid}
 use Rattle.z80write.specs.Written.{fileOf, WriteResult, refusedWrite, acceptedWrite, writtenOf, Writes}
 use Rattle.z80file.specs.Clean.{Clean, ReadGives}
-use Rattle.z80file.proofs.Back.{blocks-back}
-use Rattle.z80file.proofs.Accepted.{Good, good-blocks, good-body}
+use Rattle.z80file.proofs.BlocksBack.{blocks-back}
+use Rattle.z80file.proofs.CleanAreas.{CleanBody, clean-blocks, clean-body}
 
 -- reading the file of a valid machine and a clean memory gives both back
 pub file-back : (m : Machine) (area : List ℕ) → Typed m → validOf m ≡ true → Clean (m .model) area
@@ -50,7 +50,7 @@ file-back m area t h c =
     let v = valid-says m (t .sound) h in
     let rest = laid (slots (m .model)) area in
     let b : blocksInto (m .model) (blank 131072) (drop 86 (fileOf m area)) ≡ bodyRead area =
-    ap (blocksInto (m .model) (blank 131072)) (drop-at (headerOf m) rest 86 (header-length m t)) ∙ blocks-back (m .model) area c in
+    ap (blocksInto (m .model) (blank 131072)) (drop-at (headerOf m) rest 86 (header-86 m t)) ∙ blocks-back (m .model) area c in
     ap (λ (x : Head). afterHead x (fileOf m area) 131072) (head-back m rest t v)
     ∙ ap (λ (x : BodyResult). afterBody x (machineOf V3 (m .model) (m .attachment) (fileOf m area)) 131072) b
     ∙ ap (λ (x : Machine). record { answer = Accepted; machine = x; memory = area }) (machine-back m rest t v)
@@ -89,16 +89,16 @@ size-inside m area n = go (validOf m) (eqb (length area) 131072) (leb (length (f
 pub length-inside : (m : Machine) (area : List ℕ) (n : ℕ) (w : Written) (d : List ℕ) → Writes (writtenOf m area n) w d → w .length ≤ n
 length-inside m area n w d g = subst (λ (k : ℕ). k ≤ n) (sym (g .size)) (size-inside m area n)
 
-good-memory : (v : Version) (model : Model) (s : List ℕ) → (v ≡ V1 → model ≡ K48) → Good model (memoryInto v model (blank 131072) s)
-good-memory V1 model s f = subst (λ (k : Model). Good k (memoryInto V1 k (blank 131072) s)) (sym (f refl)) (good-body (bitAt (byte12Of s) 32) (drop 30 s))
-good-memory V2 model s f = good-blocks model (drop 55 s)
-good-memory V3 model s f = good-blocks model (drop 86 s)
+clean-memory : (v : Version) (model : Model) (s : List ℕ) → (v ≡ V1 → model ≡ K48) → CleanBody model (memoryInto v model (blank 131072) s)
+clean-memory V1 model s f = subst (λ (k : Model). CleanBody k (memoryInto V1 k (blank 131072) s)) (sym (f refl)) (clean-body (bitAt (byte12Of s) 32) (drop 30 s))
+clean-memory V2 model s f = clean-blocks model (drop 55 s)
+clean-memory V3 model s f = clean-blocks model (drop 86 s)
 
 model-is : (v : Version) (model : Model) (a : Attachment) (s : List ℕ) → machineOf v model a s .model ≡ model
 unfolding machineOf
 model-is v model a s = refl
 
-accepted-start : (s : List ℕ) (n : ℕ) (v : Version) (model : Model) (a : Attachment) (x : BodyResult) → n ≡ 131072 → headOf s ≡ Header v model a → Good model x
+accepted-start : (s : List ℕ) (n : ℕ) (v : Version) (model : Model) (a : Attachment) (x : BodyResult) → n ≡ 131072 → headOf s ≡ Header v model a → CleanBody model x
     → afterBody x (machineOf v model a s) n .answer ≡ Accepted
     → ReadGives (afterBody x (machineOf v model a s) n .machine) (afterBody x (machineOf v model a s) n .memory) n
 accepted-start s n v model a (bodyRefused w) l e g h = absurd (refused-not w h)
@@ -119,5 +119,5 @@ read-start s n = go (eqb n 131072) refl (headOf s) refl
     go : (t : Bool) → eqb n 131072 ≡ t → (x : Head) → headOf s ≡ x → o t x .answer ≡ Accepted → ReadGives (o t x .machine) (o t x .memory) n
     go true e (Head.Refused w) q h = absurd (refused-not w h)
     go true e (Header v model a) q h =
-        accepted-start s n v model a (memoryInto v model (blank 131072) s) (eqb-true _ _ e) q (good-memory v model s (opens s (headOf s) v model a refl q .first)) h
+        accepted-start s n v model a (memoryInto v model (blank 131072) s) (eqb-true _ _ e) q (clean-memory v model s (opens s (headOf s) v model a refl q .first)) h
     go false e x q h = absurd (refused-not AreaLength h)

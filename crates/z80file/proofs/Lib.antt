@@ -1,8 +1,8 @@
-pub mod Places
-pub mod Back
-pub mod Accepted
+pub mod PagesOfArea
+pub mod BlocksBack
+pub mod CleanAreas
 pub mod File
 pub mod Cases
 pub mod Sample
-pub mod Refuted
+pub mod RefutedFiles
 pub mod Theorems

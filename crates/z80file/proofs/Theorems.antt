@@ -8,10 +8,10 @@ use Rattle.z80write.specs.Written.{writtenOf}
 use Rattle.z80write.proofs.Longest.{never-short}
 use Rattle.z80file.specs.RoundTrip.{FilesOf}
 use Rattle.z80file.specs.Theorems.{Theorems}
-use Rattle.z80file.proofs.Accepted.{owned-page}
+use Rattle.z80file.proofs.CleanAreas.{owned-page}
 use Rattle.z80file.proofs.File.{file-back, out-is-file, read-start}
 use Rattle.z80file.proofs.Cases.{cases}
-use Rattle.z80file.proofs.Refuted.{refuted-refuses-files, refuted-fixed-machine, refuted-invented-length}
+use Rattle.z80file.proofs.RefutedFiles.{refuted-refuses-files, refuted-fixed-machine, refuted-invented-length}
 
 files : FilesOf readOf writtenOf
 files =

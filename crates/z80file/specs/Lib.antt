@@ -1,5 +1,5 @@
 pub mod Clean
 pub mod RoundTrip
-pub mod Wrong
+pub mod WrongFiles
 pub mod Cases
 pub mod Theorems

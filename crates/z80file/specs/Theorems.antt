@@ -14,7 +14,7 @@ use Rattle.z80read.specs.Read.{readOf}
 use Rattle.z80write.specs.Written.{fileOf, writtenOf}
 use Rattle.z80file.specs.Clean.{Clean, ReadGives}
 use Rattle.z80file.specs.RoundTrip.{BackOf, FilesOf}
-use Rattle.z80file.specs.Wrong.{refusesFiles, fixedMachine, inventsLength}
+use Rattle.z80file.specs.WrongFiles.{refusesFiles, fixedMachine, inventsLength}
 use Rattle.z80file.specs.Cases.{caseTable, caseComputed, caseExpected}
 
 pub record Theorems : Type 0 where

@@ -1,4 +1,4 @@
-pub mod Whole
-pub mod Typed
-pub mod Lengths
+pub mod FileRead
+pub mod ReadTyped
+pub mod ReadLengths
 pub mod Theorems

@@ -1,7 +1,7 @@
 -- The one value of the record of theorems.
 use Rattle.z80read.specs.Theorems.{Theorems}
-use Rattle.z80read.proofs.Lengths.{read-most}
-use Rattle.z80read.proofs.Typed.{read-typed}
+use Rattle.z80read.proofs.ReadLengths.{read-most}
+use Rattle.z80read.proofs.ReadTyped.{read-typed}
 
 pub theorems : Theorems
 theorems = record { read-most = read-most; read-typed = read-typed }

@@ -30,11 +30,11 @@ pub fn read(file: &[u8], area: &mut [u8]) -> Opened
 {
     slices::clear_from(area, 0);
     if area.len() != 131072 {
-        return refused(Refusal::AreaLength);
+        return refused_file(Refusal::AreaLength);
     }
     let head = header::read_head(file);
     match head {
-        Head::Refused(why) => return refused(why),
+        Head::Refused(why) => return refused_file(why),
         Head::Header {
             version,
             model,
@@ -56,10 +56,10 @@ fn read_on(
 {
     let answer = read_memory(file, version, model, area);
     match answer {
-        Answer::Refused(why) => return refused(why),
+        Answer::Refused(why) => return refused_file(why),
         Answer::Accepted => {
             let machine = header_read::read_machine(file, version, model, attachment);
-            return accepted(machine);
+            return accepted_file(machine);
         }
     }
 }
@@ -79,7 +79,7 @@ fn read_memory(file: &[u8], version: Version, model: Model, area: &mut [u8]) -> 
     }
 }
 
-fn accepted(machine: Machine) -> Opened
+fn accepted_file(machine: Machine) -> Opened
     ensures { λ r. ⌜ (r .answer ≡ Accepted) × (r .machine ≡ machine) ⌝ }
 {
     Opened {
@@ -88,7 +88,7 @@ fn accepted(machine: Machine) -> Opened
     }
 }
 
-fn refused(why: Refusal) -> Opened
+fn refused_file(why: Refusal) -> Opened
     ensures { λ r. ⌜ r ≡ record { answer = Refused why; machine = blankMachine } ⌝ }
 {
     Opened {

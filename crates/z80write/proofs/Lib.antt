@@ -1,3 +1,3 @@
-pub mod Whole
+pub mod FileWritten
 pub mod Longest
 pub mod Theorems

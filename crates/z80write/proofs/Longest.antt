@@ -18,8 +18,8 @@ use Rattle.spectrum.specs.Valid.{validOf, Typed}
 use Rattle.block_write.specs.BlockFor.{blockFor}
 use Rattle.blocks_write.specs.Laid.{laid}
 use Rattle.z80write.specs.Written.{fileOf, WriteResult, acceptedWrite, writtenOf}
-use Rattle.block_write.proofs.Block.{block-plain, block-most}
-use Rattle.z80write.proofs.Whole.{file-long, room}
+use Rattle.block_write.proofs.BlockWritten.{block-plain, block-most}
+use Rattle.z80write.proofs.FileWritten.{file-long, written-fits}
 
 laid-most : (more : List Slot) (area : List ℕ) → length (laid more area) ≤ length more * 16387
 unfolding laid
@@ -39,7 +39,7 @@ file-most m area t = omega (arith, file-long m area t, laid-most (slots (m .mode
 
 -- an output of that length is never too short
 pub never-short : (m : Machine) (area : List ℕ) (n : ℕ) → Typed m → validOf m ≡ true → length area ≡ 131072 → 131182 ≤ n → writtenOf m area n .answer ≡ Accepted
-never-short m area n t v h k = ap (λ (o : WriteResult). o .answer) (room m area n v h (omega (arith, file-most m area t)))
+never-short m area n t v h k = ap (λ (o : WriteResult). o .answer) (written-fits m area n v h (omega (arith, file-most m area t)))
 
 mixed-long : (k : ℕ) → length (mixed k) ≡ 2 * k
 unfolding mixed
@@ -87,12 +87,12 @@ small : AllSmall (slots K128)
 small = (omega arith, (omega arith, (omega arith, (omega arith, (omega arith, (omega arith, (omega arith, (omega arith, tt))))))))
 
 -- an area whose file is that long
-pub longest : (m : Machine) → Typed m → m .model ≡ K128 → length (mixed 65536) ≡ 131072 × length (fileOf m (mixed 65536)) ≡ 131182
-longest m t k =
+pub longest-file : (m : Machine) → Typed m → m .model ≡ K128 → length (mixed 65536) ≡ 131072 × length (fileOf m (mixed 65536)) ≡ 131182
+longest-file m t k =
     let e : length (laid (slots (m .model)) (mixed 65536)) ≡ 131096 = ap (λ (model : Model). length (laid (slots model) (mixed 65536))) k ∙ mixed-laid (slots K128) small in
     (mixed-long 65536, omega (arith, file-long m (mixed 65536) t))
 
 -- an exact fit is taken
 pub exact-fit : (m : Machine) (area : List ℕ) → validOf m ≡ true → length area ≡ 131072
     → writtenOf m area (length (fileOf m area)) ≡ acceptedWrite (fileOf m area) (length (fileOf m area))
-exact-fit m area v h = room m area (length (fileOf m area)) v h (omega arith)
+exact-fit m area v h = written-fits m area (length (fileOf m area)) v h (omega arith)

@@ -1,4 +1,4 @@
-use Rattle.block_pages.proofs.Pages.{all-48, all-128}
+use Rattle.block_pages.proofs.BlockNumbers.{all-48, all-128}
 use borrow.Author.Needs.{needs}
 use Rattle.block_pages.proofs.all_there.Statement.{statement}
 use Rattle.block_pages.proofs.all_there.Tie as tie

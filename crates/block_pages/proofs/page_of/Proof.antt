@@ -1,5 +1,5 @@
 use Rattle.block_pages.specs.Numbered.{pageOf}
-use Rattle.block_pages.proofs.Pages.{on-48, not-numbered, low, high, between}
+use Rattle.block_pages.proofs.BlockNumbers.{on-48, not-numbered, below-numbers, above-numbers, between}
 use borrow.Author.Needs.{needs}
 use Rattle.block_pages.proofs.page_of.Statement.{statement}
 use Rattle.block_pages.proofs.page_of.Tie as tie
@@ -11,10 +11,10 @@ enum-told-2 : tie.Need-enum-told-2
 enum-told-2 c = search needs
 
 returns : tie.Need-returns
-returns c = search low
+returns c = search below-numbers
 
 returns-2 : tie.Need-returns-2
-returns-2 c = search high
+returns-2 c = search above-numbers
 
 cast-t7 : tie.Need-cast-t7
 cast-t7 c = search needs

@@ -1,4 +1,4 @@
-use Rattle.block_read.proofs.Heads.{fills-plain, fills-other, fills-packed}
+use Rattle.block_read.proofs.BlockHeads.{fills-plain, fills-other, fills-packed}
 use borrow.Author.Needs.{needs}
 use Rattle.block_read.proofs.fill_page.Statement.{statement}
 use Rattle.block_read.proofs.fill_page.Tie as tie

@@ -1,4 +1,4 @@
-use Rattle.block_read.proofs.Heads.{page-small, head-short, head-cut, head-nowhere, head-twice, head-data}
+use Rattle.block_read.proofs.BlockHeads.{page-small, head-short, head-cut, head-nowhere, head-twice, head-data}
 use borrow.Author.Needs.{needs}
 use Rattle.block_read.proofs.head_at.Statement.{statement}
 use Rattle.block_read.proofs.head_at.Tie as tie

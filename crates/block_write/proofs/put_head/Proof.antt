@@ -1,4 +1,4 @@
-use Rattle.block_write.proofs.Block.{head-put}
+use Rattle.block_write.proofs.BlockWritten.{head-put}
 use native.Mathlib.Omega.{arith}
 use lib.ListN.{length-set}
 use borrow.Author.Needs.{needs}

@@ -1,5 +1,5 @@
 use denote.Ref.{now}
-use Rattle.block_write.proofs.Block.{no-head, packed-room, laid-packed, no-block, laid-plain}
+use Rattle.block_write.proofs.BlockWritten.{no-head, packed-room, laid-packed, no-block, laid-plain}
 use Prim.Native.Nat.{_≤_}
 use native.Mathlib.Omega.{arith}
 use borrow.Author.Needs.{needs}

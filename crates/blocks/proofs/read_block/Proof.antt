@@ -1,6 +1,6 @@
 use native.Mathlib.Omega.{arith}
 use Prim.Native.Nat.{_<_}
-use Rattle.blocks.proofs.Steps.{head-refuses, page-below, data-ordered, data-within, brings, malformed-block, wrong-block}
+use Rattle.blocks.proofs.BlockSteps.{head-refuses, page-below, data-ordered, data-within, brings, malformed-block, wrong-block}
 use borrow.Author.Needs.{needs}
 use Rattle.blocks.proofs.read_block.Statement.{statement}
 use Rattle.blocks.proofs.read_block.Tie as tie

@@ -3,7 +3,7 @@ use Rattle.blocks.specs.Blocks.{blocksInto}
 use lib.ListN.{length, drop}
 use mathlib.Core.Path.{_≡_, refl}
 use Prim.Native.Nat.{_-_}
-use Rattle.blocks.proofs.Turns.{BlocksSoFar, blocks-begin, going-more, going-stop, going-all, going-missing, next-page, next-falls}
+use Rattle.blocks.proofs.BlocksSoFar.{BlocksSoFar, blocks-begin, blocks-more, going-stop, going-all, going-missing, next-page, next-falls}
 use Rattle.blocks.proofs.read_blocks.Statement.{statement}
 use Rattle.blocks.proofs.read_blocks.Tie as tie
 
@@ -41,7 +41,7 @@ loop-less : tie.Need-loop-less Inv-loop μ-loop
 loop-less c = search next-falls
 
 loop-again : tie.Need-loop-again Inv-loop μ-loop
-loop-again c = (search going-more, search needs)
+loop-again c = (search blocks-more, search needs)
 
 all-there-requires : tie.Need-all-there-requires Inv-loop μ-loop
 all-there-requires c κs = search needs

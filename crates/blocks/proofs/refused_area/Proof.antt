@@ -1,5 +1,5 @@
 use mathlib.Core.Path.{refl}
-use Rattle.blocks.proofs.Turns.{area-cleared}
+use Rattle.blocks.proofs.BlocksSoFar.{area-cleared}
 use borrow.Author.Needs.{needs}
 use Rattle.blocks.proofs.refused_area.Statement.{statement}
 use Rattle.blocks.proofs.refused_area.Tie as tie

@@ -1,6 +1,6 @@
 use Prim.Native.Nat.{_-_}
 use borrow.Author.Needs.{needs}
-use Rattle.blocks_write.proofs.Turns.{LaidSoFar, laid-begin, going-room, going-more, going-over, going-end}
+use Rattle.blocks_write.proofs.LaidSoFar.{LaidSoFar, laid-begin, going-room, laid-more, going-over, going-end}
 use Rattle.blocks_write.proofs.lay.Statement.{statement}
 use Rattle.blocks_write.proofs.lay.Tie as tie
 
@@ -71,7 +71,7 @@ loop-less c = search needs
 
 loop-again : tie.Need-loop-again Inv-loop μ-loop
 loop-again c =
-    going-more _ _ _ _ _ _ (c .before .before .before .before .before .before .before .before .before .before .before .before .loop .inv) _ (c .before .before .before .before .before .before .before .before .before .before .before .before .before .count .ensures) (c .before .before .before .before .before .before .before .before .before .before .before .loop-test .taken) (c .before .before .before .before .before .before .before .before .before .before .before .before .before .before .before .before .pre) _ (c .before .before .before .before .before .before .before .before .before .before .slot-at .ensures) _ (c .before .before .before .before .before .before .before .before .least .ensures) _ _ (c .before .before .before .before .before .write-block .ensures) _ (c .before .fit .given .1)
+    laid-more _ _ _ _ _ _ (c .before .before .before .before .before .before .before .before .before .before .before .before .loop .inv) _ (c .before .before .before .before .before .before .before .before .before .before .before .before .before .count .ensures) (c .before .before .before .before .before .before .before .before .before .before .before .loop-test .taken) (c .before .before .before .before .before .before .before .before .before .before .before .before .before .before .before .before .pre) _ (c .before .before .before .before .before .before .before .before .before .before .slot-at .ensures) _ (c .before .before .before .before .before .before .before .before .least .ensures) _ _ (c .before .before .before .before .before .write-block .ensures) _ (c .before .fit .given .1)
 
 enum-told : tie.Need-enum-told Inv-loop μ-loop
 enum-told c = search needs

@@ -1,4 +1,4 @@
-use Rattle.body_v1.proofs.Moves.{top-cleared}
+use Rattle.body_v1.proofs.BodyMoves.{top-cleared}
 use borrow.Author.Needs.{needs}
 use Rattle.body_v1.proofs.clear_top.Statement.{statement}
 use Rattle.body_v1.proofs.clear_top.Tie as tie

@@ -1,5 +1,5 @@
 use Prim.Native.Nat.{_-_}
-use Rattle.body_v1.proofs.Moves.{Shifted, shifted-none, shifted-more, shifted-all}
+use Rattle.body_v1.proofs.BodyMoves.{Shifted, shifted-none, shifted-more, shifted-all}
 use borrow.Author.Needs.{needs}
 use Rattle.body_v1.proofs.move_down.Statement.{statement}
 use Rattle.body_v1.proofs.move_down.Tie as tie

@@ -1,4 +1,4 @@
-use Rattle.body_v1.proofs.Moves.{settle-is}
+use Rattle.body_v1.proofs.BodyMoves.{settle-is}
 use borrow.Author.Needs.{needs}
 use Rattle.body_v1.proofs.settle.Statement.{statement}
 use Rattle.body_v1.proofs.settle.Tie as tie

@@ -1,4 +1,4 @@
-use Rattle.body_v1.proofs.Moves.{good-body, malformed-body, wrong-body}
+use Rattle.body_v1.proofs.BodyMoves.{body-accepted, malformed-body, wrong-body}
 use borrow.Author.Needs.{needs}
 use Rattle.body_v1.proofs.unpack_body.Statement.{statement}
 use Rattle.body_v1.proofs.unpack_body.Tie as tie
@@ -25,7 +25,7 @@ same-length : tie.Need-same-length
 same-length c = search needs
 
 returns : tie.Need-returns
-returns c = search good-body
+returns c = search body-accepted
 
 enum-told-2 : tie.Need-enum-told-2
 enum-told-2 c = search needs

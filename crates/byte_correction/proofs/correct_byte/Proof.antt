@@ -1,4 +1,4 @@
-use Rattle.corrections.proofs.Made.{standing-few, standing-room}
+use Rattle.corrections.proofs.CorrectionSteps.{standing-few, standing-room}
 use Rattle.byte_correction.proofs.ByteMade.{byte-rom, byte-full, byte-page, byte-offset, byte-made}
 use borrow.Author.Needs.{needs}
 use Rattle.byte_correction.proofs.correct_byte.Statement.{statement}

@@ -1,4 +1,4 @@
-use Rattle.codes.proofs.Codes.{copied-16}
+use Rattle.codes.proofs.CodesAhead.{copied-16}
 use borrow.Author.Needs.{needs}
 use Rattle.codes.proofs.codes16.Statement.{statement}
 use Rattle.codes.proofs.codes16.Tie as tie

@@ -1,5 +1,5 @@
 use Prim.Native.Nat.{_-_}
-use Rattle.codes.proofs.Codes.{Looking, looking-none, looking-more, looking-all, looked-near}
+use Rattle.codes.proofs.CodesAhead.{Looking, looking-none, looking-more, looking-all, looked-near}
 use borrow.Author.Needs.{needs}
 use Rattle.codes.proofs.look.Statement.{statement}
 use Rattle.codes.proofs.look.Tie as tie

@@ -1,4 +1,4 @@
-use Rattle.corrections.proofs.Made.{out-48, out-locked, out-full, out-made, standing-few, standing-room}
+use Rattle.corrections.proofs.CorrectionSteps.{out-48, out-locked, out-full, out-made, standing-few, standing-room}
 use borrow.Author.Needs.{needs}
 use Rattle.corrections.proofs.correct_out.Statement.{statement}
 use Rattle.corrections.proofs.correct_out.Tie as tie

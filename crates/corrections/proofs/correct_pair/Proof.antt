@@ -1,4 +1,4 @@
-use Rattle.corrections.proofs.Made.{pair-none, pair-full, pair-made, standing-few, standing-room}
+use Rattle.corrections.proofs.CorrectionSteps.{pair-none, pair-full, pair-made, standing-few, standing-room}
 use borrow.Author.Needs.{needs}
 use Rattle.corrections.proofs.correct_pair.Statement.{statement}
 use Rattle.corrections.proofs.correct_pair.Tie as tie

@@ -1,4 +1,4 @@
-use Rattle.corrections.proofs.Made.{added-is}
+use Rattle.corrections.proofs.CorrectionSteps.{added-is}
 use borrow.Author.Needs.{needs}
 use Rattle.corrections.proofs.record_step.Statement.{statement}
 use Rattle.corrections.proofs.record_step.Tie as tie

@@ -1,4 +1,4 @@
-use Rattle.journal.proofs.Calls.{ready, not-sound, is-sound}
+use Rattle.journal.proofs.SoundCalls.{sound-ready, not-sound, is-sound}
 use borrow.Author.Needs.{needs}
 use Rattle.journal.proofs.call_on.Statement.{statement}
 use Rattle.journal.proofs.call_on.Tie as tie
@@ -14,7 +14,7 @@ call-on-spec =
     (λ c. search needs)
     (λ c. search not-sound)
     (λ c. search needs)
-    (λ c κs. search ready)
+    (λ c κs. search sound-ready)
     (λ c. search needs)
     (λ c. search needs)
     (λ c. search is-sound))

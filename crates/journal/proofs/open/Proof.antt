@@ -1,4 +1,4 @@
-use Rattle.journal.proofs.Calls.{opened-is}
+use Rattle.journal.proofs.SoundCalls.{opened-is}
 use borrow.Author.Needs.{needs}
 use Rattle.journal.proofs.open.Statement.{statement}
 use Rattle.journal.proofs.open.Tie as tie

@@ -1,4 +1,4 @@
-use Rattle.journal.proofs.Calls.{sound-20, sound-21, sound-0, sound-29, sound-29b}
+use Rattle.journal.proofs.SoundCalls.{sound-20, sound-21, sound-0, sound-29, sound-29b}
 use borrow.Author.Needs.{needs}
 use Rattle.journal.proofs.soundness_of.Statement.{statement}
 use Rattle.journal.proofs.soundness_of.Tie as tie

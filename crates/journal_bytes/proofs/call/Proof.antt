@@ -1,5 +1,5 @@
 use Rattle.header_canonical.proofs.Canonical.{decoded-86}
-use Rattle.journal_bytes.proofs.CallSteps.{call-made, call-refused}
+use Rattle.journal_bytes.proofs.CallSteps.{call-leaves, call-refused}
 use borrow.Author.Needs.{needs}
 use Rattle.journal_bytes.proofs.call.Statement.{statement}
 use Rattle.journal_bytes.proofs.call.Tie as tie
@@ -23,7 +23,7 @@ same-length-3 : tie.Need-same-length-3
 same-length-3 c = search needs
 
 returns : tie.Need-returns
-returns c = search call-made
+returns c = search call-leaves
 
 number-requires : tie.Need-number-requires
 number-requires c κs = search needs

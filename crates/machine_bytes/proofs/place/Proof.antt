@@ -1,4 +1,4 @@
-use Rattle.machine_bytes.proofs.Told.{page-fits, offset-fits, in-rom, in-ram, place-refused}
+use Rattle.machine_bytes.proofs.Told.{place-page-fits, place-offset-fits, told-rom, told-ram, place-refused}
 use borrow.Author.Needs.{needs}
 use Rattle.machine_bytes.proofs.place.Statement.{statement}
 use Rattle.machine_bytes.proofs.place.Tie as tie
@@ -16,22 +16,22 @@ number-requires : tie.Need-number-requires
 number-requires c κs = search needs
 
 returns : tie.Need-returns
-returns c = search in-rom
+returns c = search told-rom
 
 enum-known-found : tie.Need-enum-known-found
 enum-known-found c = search needs
 
 cast-page : tie.Need-cast-page
-cast-page c = search page-fits
+cast-page c = search place-page-fits
 
 cast-offset : tie.Need-cast-offset
-cast-offset c = search offset-fits
+cast-offset c = search place-offset-fits
 
 number-requires-2 : tie.Need-number-requires-2
 number-requires-2 c κs = search needs
 
 returns-2 : tie.Need-returns-2
-returns-2 c = search in-ram
+returns-2 c = search told-ram
 
 number-requires-3 : tie.Need-number-requires-3
 number-requires-3 c κs = search needs

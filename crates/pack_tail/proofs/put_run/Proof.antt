@@ -1,4 +1,4 @@
-use Rattle.stores.proofs.Written.{put-4}
+use Rattle.stores.proofs.StoredBytes.{put-4}
 use native.Mathlib.Omega.{arith}
 use lib.ListN.{length-set}
 use borrow.Author.Needs.{needs}

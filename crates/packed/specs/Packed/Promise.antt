@@ -11,7 +11,7 @@ use borrow.Author.Tests.{eqb-true, eqb-false, leb-true, leb-false}
 use Rattle.slices.specs.Choose.{choose}
 use Rattle.slices.proofs.Chosen.{either}
 use Rattle.packed.specs.Packed.{Found, malformed, bytes, before, escape, unpacked, front, packedFrom, packed}
-use Rattle.packed.specs.Packed.Steps.{alone, plain, code}
+use Rattle.packed.specs.Packed.CodeLaws.{alone, plain, code}
 
 -- the bytes at the front
 covered : (x : ℕ) (xs : List ℕ) (k : ℕ) → k ≤ front x xs → replicate k x ++ drop k xs ≡ xs

@@ -3,7 +3,7 @@ use lib.ListN.{length}
 use Rattle.packed.proofs.Frame.{packedAs, Frame, frame-none}
 use Rattle.pack_tail.proofs.PackSteps.{again-run-ed, again-run, again-single, again-four}
 use Rattle.stretches.proofs.Stretch.{stopped-ahead}
-use Rattle.packing.proofs.Loop.{stopped, stopped-block, rest-packed}
+use Rattle.packing.proofs.PackLoop.{frame-stopped, stopped-block, rest-packed}
 use borrow.Author.Needs.{needs}
 use Rattle.packing.proofs.pack.Statement.{statement}
 use Rattle.packing.proofs.pack.Tie as tie
@@ -73,7 +73,7 @@ loop-less-2 c = search needs
 
 loop-again-2 : tie.Need-loop-again-2 Inv-loop μ-loop
 loop-again-2 c =
-    let g = stopped _ _ _ _ _ _ (c .before .before .before .before .before .before .before .before .before .before .before .before .before .before .before .loop .inv) _ _ _ (c .before .before .before .before .before .before .before .before .before .before .before .copy16 .ensures) (search needs) (search needs) in
+    let g = frame-stopped _ _ _ _ _ _ (c .before .before .before .before .before .before .before .before .before .before .before .before .before .before .before .loop .inv) _ _ _ (c .before .before .before .before .before .before .before .before .before .before .before .copy16 .ensures) (search needs) (search needs) in
     again-run-ed _ _ _ _ _ _ g _ (search needs) _ (c .before .before .before .before .before .before .run-from .ensures) (c .before .before .put-run .ensures) (search needs) (search needs) (search needs)
 
 add-put-two : tie.Need-add-put-two Inv-loop μ-loop
@@ -96,7 +96,7 @@ loop-less-3 c = search needs
 
 loop-again-3 : tie.Need-loop-again-3 Inv-loop μ-loop
 loop-again-3 c =
-    let g = stopped _ _ _ _ _ _ (c .before .before .before .before .before .before .before .before .before .before .before .before .before .before .before .before .loop .inv) _ _ _ (c .before .before .before .before .before .before .before .before .before .before .before .before .copy16 .ensures) (search needs) (search needs) in
+    let g = frame-stopped _ _ _ _ _ _ (c .before .before .before .before .before .before .before .before .before .before .before .before .before .before .before .before .loop .inv) _ _ _ (c .before .before .before .before .before .before .before .before .before .before .before .before .copy16 .ensures) (search needs) (search needs) in
     again-single _ _ _ _ _ _ g _ (search needs) _ (c .before .before .before .before .before .before .before .run-from .ensures) (c .before .before .put-two .ensures) (search needs) (search needs) (search needs) (search needs)
 
 put-run-requires-2 : tie.Need-put-run-requires-2 Inv-loop μ-loop
@@ -113,7 +113,7 @@ loop-less-4 c = search needs
 
 loop-again-4 : tie.Need-loop-again-4 Inv-loop μ-loop
 loop-again-4 c =
-    let g = stopped _ _ _ _ _ _ (c .before .before .before .before .before .before .before .before .before .before .before .before .before .before .before .loop .inv) _ _ _ (c .before .before .before .before .before .before .before .before .before .before .before .copy16 .ensures) (search needs) (search needs) in
+    let g = frame-stopped _ _ _ _ _ _ (c .before .before .before .before .before .before .before .before .before .before .before .before .before .before .before .loop .inv) _ _ _ (c .before .before .before .before .before .before .before .before .before .before .before .copy16 .ensures) (search needs) (search needs) in
     again-run _ _ _ _ _ _ g _ (search needs) _ (c .before .before .before .before .before .before .run-from .ensures) (c .before .before .put-run2 .ensures) (search needs) (search needs) (search needs)
 
 put-four-requires : tie.Need-put-four-requires Inv-loop μ-loop
@@ -130,7 +130,7 @@ loop-less-5 c = search needs
 
 loop-again-5 : tie.Need-loop-again-5 Inv-loop μ-loop
 loop-again-5 c =
-    let g = stopped _ _ _ _ _ _ (c .before .before .before .before .before .before .before .before .before .before .before .before .before .before .before .loop .inv) _ _ _ (c .before .before .before .before .before .before .before .before .before .before .before .copy16 .ensures) (search needs) (search needs) in
+    let g = frame-stopped _ _ _ _ _ _ (c .before .before .before .before .before .before .before .before .before .before .before .before .before .before .before .loop .inv) _ _ _ (c .before .before .before .before .before .before .before .before .before .before .before .copy16 .ensures) (search needs) (search needs) in
     again-four _ _ _ _ _ _ g _ (search needs) _ (c .before .before .before .before .before .before .run-from .ensures) (c .before .before .put-four .ensures) (search needs) (search needs) (search needs)
 
 pub pack-spec : {M : Type 1} → statement M

@@ -1,4 +1,4 @@
-use Rattle.pages.proofs.Places.{owned-one, owned-other, owned-below}
+use Rattle.pages.proofs.PageSteps.{owned-one, owned-other, owned-below}
 use borrow.Author.Needs.{needs}
 use Rattle.pages.proofs.owns.Statement.{statement}
 use Rattle.pages.proofs.owns.Tie as tie

@@ -1,4 +1,4 @@
-use Rattle.pages.proofs.Places.{place-rom, place-5, place-2, place-top}
+use Rattle.pages.proofs.PageSteps.{place-rom, place-5, place-2, place-top}
 use borrow.Author.Needs.{needs}
 use Rattle.pages.proofs.place_of.Statement.{statement}
 use Rattle.pages.proofs.place_of.Tie as tie

@@ -1,11 +1,11 @@
 use Prim.Native.Nat.{_-_}
-use Rattle.runs.proofs.RunBlocks.{Same, same-none, same-more, same-stops, same-full}
+use Rattle.runs.proofs.RunBlocks.{RunBlocks, run-blocks-none, run-blocks-more, run-blocks-stop, run-blocks-full}
 use borrow.Author.Needs.{needs}
 use Rattle.runs.proofs.run_at.Statement.{statement}
 use Rattle.runs.proofs.run_at.Tie as tie
 
 abbrev Inv-loop : tie.InvT-loop
-Inv-loop src i v q₀ q = Same src i v q
+Inv-loop src i v q₀ q = RunBlocks src i v q
 
 abbrev μ-loop : tie.MeasureT-loop
 μ-loop src i v q₀ q = 16 - q
@@ -14,7 +14,7 @@ shared-slice-read-v : tie.Need-shared-slice-read-v Inv-loop μ-loop
 shared-slice-read-v c = search needs
 
 loop-holds : tie.Need-loop-holds Inv-loop μ-loop
-loop-holds c = search same-none
+loop-holds c = search run-blocks-none
 
 mul-n : tie.Need-mul-n Inv-loop μ-loop
 mul-n c = search needs
@@ -47,7 +47,7 @@ add-result : tie.Need-add-result Inv-loop μ-loop
 add-result c = search needs
 
 returns-2 : tie.Need-returns-2 Inv-loop μ-loop
-returns-2 c = search same-stops
+returns-2 c = search run-blocks-stop
 
 add-q : tie.Need-add-q Inv-loop μ-loop
 add-q c = search needs
@@ -56,10 +56,10 @@ loop-less : tie.Need-loop-less Inv-loop μ-loop
 loop-less c = search needs
 
 loop-again : tie.Need-loop-again Inv-loop μ-loop
-loop-again c = search same-more
+loop-again c = search run-blocks-more
 
 returns-3 : tie.Need-returns-3 Inv-loop μ-loop
-returns-3 c = search same-full
+returns-3 c = search run-blocks-full
 
 pub run-at-spec : {M : Type 1} → statement M
 run-at-spec =

@@ -4,7 +4,7 @@ use native.Mathlib.Omega.{arith}
 use lib.ListN.{length}
 use borrow.Author.Needs.{needs}
 use Rattle.journal_bytes.specs.Calls.{buffers}
-use Rattle.server.proofs.Turns.{CallsSoFar, calls-begin, going-more, going-done, serves, number-fits}
+use Rattle.server.proofs.CallsSoFar.{CallsSoFar, calls-begin, calls-go-on, going-done, serves, number-fits}
 use Rattle.server.proofs.serve.Statement.{statement}
 use Rattle.server.proofs.serve.Tie as tie
 
@@ -50,7 +50,7 @@ loop-again c =
     let m = c .before .before .before .before .before .before in
     let f = m .before .before .before .before .before .before in
     let inv = f .before .before .loop .inv in (
-      going-more _ _ _ _ _ _ _ _ _ _ (inv .0) (f .before .loop-test .taken) (f .call-at .ensures) (m .call-made .ensures .leaves),
+      calls-go-on _ _ _ _ _ _ _ _ _ _ (inv .0) (f .before .loop-test .taken) (f .call-at .ensures) (m .call-made .ensures .leaves),
       m .call-made .kept .0 ∙ inv .1,
       m .call-made .kept .1 .0 ∙ inv .2,
       m .call-made .kept .1 .1 .0 ∙ inv .3,

@@ -1,4 +1,4 @@
-use Rattle.stores.proofs.Written.{put-1}
+use Rattle.stores.proofs.StoredBytes.{put-1}
 use Prim.Native.Nat.{_-_}
 use borrow.Author.Needs.{needs}
 use Rattle.stores.proofs.put_one.Statement.{statement}

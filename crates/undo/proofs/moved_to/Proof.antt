@@ -1,4 +1,4 @@
-use Rattle.undo.proofs.Moves.{moves, stays-other, stays-damaged}
+use Rattle.undo.proofs.UndoSteps.{moves, stays-other, stays-damaged}
 use borrow.Author.Needs.{needs}
 use Rattle.undo.proofs.moved_to.Statement.{statement}
 use Rattle.undo.proofs.moved_to.Tie as tie

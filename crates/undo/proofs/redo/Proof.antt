@@ -1,5 +1,5 @@
 use Rattle.log_steps.proofs.Room.{redo-fits}
-use Rattle.undo.proofs.Moves.{redo-none, redo-done, total-kept}
+use Rattle.undo.proofs.UndoSteps.{redo-none, redo-done, total-kept}
 use borrow.Author.Needs.{needs}
 use Rattle.undo.proofs.redo.Statement.{statement}
 use Rattle.undo.proofs.redo.Tie as tie

@@ -1,5 +1,5 @@
 use Rattle.log_steps.proofs.Room.{undo-fits}
-use Rattle.undo.proofs.Moves.{undo-none, undo-done, total-kept}
+use Rattle.undo.proofs.UndoSteps.{undo-none, undo-done, total-kept}
 use borrow.Author.Needs.{needs}
 use Rattle.undo.proofs.undo.Statement.{statement}
 use Rattle.undo.proofs.undo.Tie as tie

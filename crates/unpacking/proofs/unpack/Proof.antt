@@ -1,6 +1,6 @@
 use Prim.Native.Nat.{_-_}
 use lib.ListN.{length}
-use Rattle.unpacking.proofs.Loop.{Unpacking, unpacking-none, unpacking-block, unpacking-zero, unpacking-full, unpacking-run, unpacking-short, rest-into}
+use Rattle.unpacking.proofs.UnpackLoop.{Unpacking, unpacking-none, unpacking-block, unpacking-zero, unpacking-full, unpacking-run, unpacking-short, rest-into}
 use borrow.Author.Needs.{needs}
 use Rattle.unpacking.proofs.unpack.Statement.{statement}
 use Rattle.unpacking.proofs.unpack.Tie as tie

@@ -1,4 +1,4 @@
-use Rattle.view.proofs.Views.{view-20, view-21, view-31, view-30, view-0}
+use Rattle.view.proofs.ViewParts.{view-20, view-21, view-31, view-30, view-0}
 use borrow.Author.Needs.{needs}
 use Rattle.view.proofs.answer.Statement.{statement}
 use Rattle.view.proofs.answer.Tie as tie

@@ -1,4 +1,4 @@
-use Rattle.view.proofs.Views.{page-ram, page-rom}
+use Rattle.view.proofs.ViewParts.{page-ram, page-rom}
 use borrow.Author.Needs.{needs}
 use Rattle.view.proofs.has_page.Statement.{statement}
 use Rattle.view.proofs.has_page.Tie as tie

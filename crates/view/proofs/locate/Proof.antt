@@ -1,4 +1,4 @@
-use Rattle.view.proofs.Views.{part-none, part-area, part-rom}
+use Rattle.view.proofs.ViewParts.{part-none, part-area, part-rom}
 use borrow.Author.Needs.{needs}
 use Rattle.view.proofs.locate.Statement.{statement}
 use Rattle.view.proofs.locate.Tie as tie

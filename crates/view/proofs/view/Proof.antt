@@ -1,5 +1,5 @@
 use native.Mathlib.Omega.{arith}
-use Rattle.view.proofs.Views.{view-none, view-area, view-rom, area-inside, rom-fits}
+use Rattle.view.proofs.ViewParts.{view-none, view-area, view-rom, area-inside, rom-fits}
 use borrow.Author.Needs.{needs}
 use Rattle.view.proofs.view.Statement.{statement}
 use Rattle.view.proofs.view.Tie as tie

@@ -1,5 +1,5 @@
 use mathlib.Core.Path.{refl}
-use Rattle.view_exports.proofs.Pages.{page-none, page-fits, page-over}
+use Rattle.view_exports.proofs.ShownPages.{page-none, page-shown, page-over}
 use borrow.Author.Needs.{needs}
 use Rattle.view_exports.proofs.view_page.Statement.{statement}
 use Rattle.view_exports.proofs.view_page.Tie as tie
@@ -23,7 +23,7 @@ same-length c = search needs
 
 returns : tie.Need-returns
 returns c =
-    page-fits _ _ _ _ _ _ _ (c .before .before .before .before .before .before .before .before .decode-header .ensures) (c .before .before .before .before .before .before .before .before .before .before .before .fill .ensures) _ _ (search needs) (c .before .before .before .before .before .view .ensures) refl _ (search needs) (c .before .before .put-at .ensures)
+    page-shown _ _ _ _ _ _ _ (c .before .before .before .before .before .before .before .before .decode-header .ensures) (c .before .before .before .before .before .before .before .before .before .before .before .fill .ensures) _ _ (search needs) (c .before .before .before .before .before .view .ensures) refl _ (search needs) (c .before .before .put-at .ensures)
 
 same-length-2 : tie.Need-same-length-2
 same-length-2 c = search needs

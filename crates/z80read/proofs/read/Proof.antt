@@ -1,4 +1,4 @@
-use Rattle.z80read.proofs.Whole.{read-length, read-refused, read-readable, is-blank, read-on}
+use Rattle.z80read.proofs.FileRead.{read-length, read-refused, read-readable, is-blank, read-on}
 use borrow.Author.Needs.{needs}
 use Rattle.z80read.proofs.read.Statement.{statement}
 use Rattle.z80read.proofs.read.Tie as tie
@@ -6,8 +6,8 @@ use Rattle.z80read.proofs.read.Tie as tie
 clear-from-requires : tie.Need-clear-from-requires
 clear-from-requires c κs = search needs
 
-refused-requires : tie.Need-refused-requires
-refused-requires c κs = search needs
+refused-file-requires : tie.Need-refused-file-requires
+refused-file-requires c κs = search needs
 
 same-length : tie.Need-same-length
 same-length c = search needs
@@ -21,8 +21,8 @@ read-head-requires c κs = search needs
 enum-known-head : tie.Need-enum-known-head
 enum-known-head c = search needs
 
-refused-requires-2 : tie.Need-refused-requires-2
-refused-requires-2 c κs = search needs
+refused-file-requires-2 : tie.Need-refused-file-requires-2
+refused-file-requires-2 c κs = search needs
 
 same-length-2 : tie.Need-same-length-2
 same-length-2 c = search needs
@@ -47,12 +47,12 @@ read-spec =
     tie.close
     (tie.spec
     clear-from-requires
-    refused-requires
+    refused-file-requires
     same-length
     returns
     read-head-requires
     enum-known-head
-    refused-requires-2
+    refused-file-requires-2
     same-length-2
     returns-2
     enum-known-head-2

@@ -1,5 +1,5 @@
 use Rattle.header.proofs.HeadSteps.{long-30}
-use Rattle.z80read.proofs.Whole.{memory-1, memory-2, memory-3, at-12}
+use Rattle.z80read.proofs.FileRead.{memory-1, memory-2, memory-3, at-12}
 use borrow.Author.Needs.{needs}
 use Rattle.z80read.proofs.read_memory.Statement.{statement}
 use Rattle.z80read.proofs.read_memory.Tie as tie

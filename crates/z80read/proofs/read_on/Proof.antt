@@ -1,4 +1,4 @@
-use Rattle.z80read.proofs.Whole.{on-refused, on-accepted}
+use Rattle.z80read.proofs.FileRead.{on-refused, on-accepted}
 use borrow.Author.Needs.{needs}
 use Rattle.z80read.proofs.read_on.Statement.{statement}
 use Rattle.z80read.proofs.read_on.Tie as tie
@@ -9,8 +9,8 @@ read-memory-requires c κs = search needs
 enum-known-answer : tie.Need-enum-known-answer
 enum-known-answer c = search needs
 
-refused-requires : tie.Need-refused-requires
-refused-requires c κs = search needs
+refused-file-requires : tie.Need-refused-file-requires
+refused-file-requires c κs = search needs
 
 same-length : tie.Need-same-length
 same-length c = search needs
@@ -24,8 +24,8 @@ enum-told c = search needs
 read-machine-requires : tie.Need-read-machine-requires
 read-machine-requires c κs = search needs
 
-accepted-requires : tie.Need-accepted-requires
-accepted-requires c κs = search needs
+accepted-file-requires : tie.Need-accepted-file-requires
+accepted-file-requires c κs = search needs
 
 same-length-2 : tie.Need-same-length-2
 same-length-2 c = search needs
@@ -39,11 +39,11 @@ read-on-spec =
     (tie.spec
     read-memory-requires
     enum-known-answer
-    refused-requires
+    refused-file-requires
     same-length
     returns
     enum-told
     read-machine-requires
-    accepted-requires
+    accepted-file-requires
     same-length-2
     returns-2)

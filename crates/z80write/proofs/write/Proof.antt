@@ -1,7 +1,7 @@
 use Prim.Native.Nat.{_+_, _≤_}
 use denote.Ref.{now}
 use lib.ListN.{length}
-use Rattle.z80write.proofs.Whole.{writes-invalid, writes-area, writes-front, blocks-room, writes-short, writes-file}
+use Rattle.z80write.proofs.FileWritten.{writes-invalid, writes-area, writes-front, blocks-room, writes-short, writes-file}
 use borrow.Author.Needs.{needs}
 use Rattle.z80write.proofs.write.Statement.{statement}
 use Rattle.z80write.proofs.write.Tie as tie

@@ -1,0 +1,153 @@
+-- The head at a place of the file, at each return of `head_at`, and what it tells of the block there: `headAt` and `blockOf` with their tests put in.
+-- The returns of `fill_page`.
+use Prim.Native.Nat.{ℕ, _+_, _-_, _*_, _<_, _≤_}
+use mathlib.Core.Path.{_≡_, refl, sym, subst, _∙_}
+use mathlib.Core.Bool.{Bool, true, false}
+use mathlib.Core.List.{List, _++_, append-nil}
+use native.Mathlib.Omega.{arith}
+use lib.Dec.{eqb, ltb}
+use lib.ListN.{length, getD, take, drop, replicate, length-drop, drop-of-length-le}
+use lib.Seq.{getD-drop, drop-drop, take-length}
+use borrow.Author.Tests.{lt-ltb, le-ltb, ltb-true, ltb-false, eq-eqb, ne-eqb}
+use Rattle.slices.specs.Choose.{choose}
+use Rattle.packed.specs.Packed.{unpacked}
+use Rattle.packed.specs.Unpacking.{Unpacks}
+use Rattle.packed.specs.declared.Unpacked.{Unpacked}
+use Rattle.packed.specs.declared.Unpacked.the-variants.{Good, WrongLength}
+use Rattle.pages.specs.declared.Model.{Model}
+use Rattle.numbers.specs.declared.Refusal.the-variants.{BlockCut, BlockNumber, BlockTwice}
+use Rattle.pages.proofs.PageSteps.{owned-small}
+use Rattle.block_pages.specs.declared.Page.{Page}
+use Rattle.block_pages.specs.declared.Page.the-variants.{At, NoPage}
+use Rattle.slices.specs.Bytes.{wordAt}
+use Rattle.block_read.specs.declared.BlockHead.{BlockHead}
+use Rattle.block_read.specs.declared.BlockHead.the-variants.{Bad, Data}
+use Rattle.block_read.specs.Block.{sizeOf, contents, onPage, pageFrom, blockOf}
+use Rattle.block_pages.specs.Numbered.{pageOf}
+use Rattle.block_pages.proofs.BlockNumbers.{page-owned}
+use Rattle.block_read.specs.Inner.{Fills, headOn, headAt, Refuses}
+
+-- the block at a place is what the file's bytes from start to end give for a page
+pub record BlockAt (model : Model) (seen : List Bool) (file : List ℕ) (at page start end : ℕ) (plain : Bool) : Type 0 where
+  pub block : blockOf model seen (drop at file) ≡ pageFrom (contents plain (take (end - start) (drop start file))) page (drop end file)
+  pub page-small : page < 8
+  pub further : at < start
+  pub ordered : start ≤ end
+  pub within : end ≤ length file
+
+abbrev pub HeadSays : Model → List Bool → List ℕ → ℕ → BlockHead → Type 0
+HeadSays model seen file at (Bad why) = Refuses model seen file at why
+HeadSays model seen file at (Data page start end plain) = BlockAt model seen file at page start end plain
+
+pub page-small : (k : Model) (n : ℕ) (f : Page) (p : ℕ) → f ≡ pageOf k n → f ≡ At p → p < 8
+page-small k n f p e h = owned-small k p (page-owned k n p (sym e ∙ h))
+
+word-drop : (file : List ℕ) (at n : ℕ) → n ≡ getD file at 0 + 256 * getD file (at + 1) 0 → wordAt (drop at file) 0 ≡ n
+word-drop file at n e =
+    let z : at + 0 ≡ at = omega arith in
+    rw (getD-drop at file 0 0, getD-drop at file 1 0, z) (sym e)
+
+module _ (model : Model) (seen : List Bool) (file : List ℕ) (at : ℕ) where
+  pub head-short : length file - at < 3 → Bad BlockCut ≡ headAt model seen file at
+  unfolding headAt
+  head-short h = rw (lt-ltb _ _ h)
+
+  block-short : length file - at < 3 → Refuses model seen file at BlockCut
+  unfolding blockOf
+  block-short h = record { block = rw (length-drop at file, lt-ltb _ _ h) }
+
+  module _ (n size : ℕ) (h : 3 ≤ length file - at) (en : n ≡ getD file at 0 + 256 * getD file (at + 1) 0) (es : size ≡ sizeOf n) where
+    pub head-cut : length file - at - 3 < size → Bad BlockCut ≡ headAt model seen file at
+    unfolding headAt
+    head-cut l = rw (le-ltb _ _ h, ← en, ← es, lt-ltb _ _ l)
+
+    head-opened : size ≤ length file - at - 3
+        → headAt model seen file at ≡ headOn (pageOf model (getD file (at + 2) 0)) seen (at + 3) (at + 3 + size) (eqb n 65535)
+    unfolding headAt
+    head-opened l = rw (le-ltb _ _ h, ← en, ← es, le-ltb _ _ l)
+
+    pub head-nowhere : (f : Page) → size ≤ length file - at - 3 → f ≡ pageOf model (getD file (at + 2) 0) → f ≡ NoPage → Bad BlockNumber ≡ headAt model seen file at
+    head-nowhere f g e z = sym (head-opened g ∙ rw (← e, z))
+
+    pub head-twice : (f : Page) (p : ℕ) → size ≤ length file - at - 3 → f ≡ pageOf model (getD file (at + 2) 0) → f ≡ At p → getD seen p false ≡ true → Bad BlockTwice ≡ headAt model seen file at
+    head-twice f p g e z s = sym (head-opened g ∙ rw (← e, z, s))
+
+    pub head-data : (f : Page) (p : ℕ) → size ≤ length file - at - 3 → f ≡ pageOf model (getD file (at + 2) 0) → f ≡ At p → getD seen p false ≡ false
+        → Data p (at + 3) (at + 3 + size) (eqb n 65535) ≡ headAt model seen file at
+    head-data f p g e z s = sym (head-opened g ∙ rw (← e, z, s))
+
+    block-cut : length file - at - 3 < size → Refuses model seen file at BlockCut
+    unfolding blockOf
+    block-cut l = let g : length file - at < 3 + size = omega arith in record { block = rw (length-drop at file, le-ltb _ _ h, word-drop file at n en, ← es, lt-ltb _ _ g) }
+
+    block-data : size ≤ length file - at - 3
+        → blockOf model seen (drop at file)
+        ≡ onPage (pageOf model (getD file (at + 2) 0)) seen (contents (eqb n 65535) (take size (drop (at + 3) file))) (drop (at + (3 + size)) file)
+    unfolding blockOf
+    block-data l = let g : 3 + size ≤ length file - at = omega arith in rw (length-drop at file, le-ltb _ _ h, word-drop file at n en, ← es, le-ltb _ _ g, getD-drop at file 2 0, drop-drop 3 at file, drop-drop (3 + size) at file)
+
+    block-nowhere : (f : Page) → size ≤ length file - at - 3 → f ≡ pageOf model (getD file (at + 2) 0) → f ≡ NoPage → Refuses model seen file at BlockNumber
+    block-nowhere f g e z = record { block = block-data g ∙ rw (← e, z) }
+
+    block-twice : (f : Page) (p : ℕ) → size ≤ length file - at - 3 → f ≡ pageOf model (getD file (at + 2) 0) → f ≡ At p → getD seen p false ≡ true → Refuses model seen file at BlockTwice
+    block-twice f p g e z s = record { block = block-data g ∙ rw (← e, z, s) }
+
+    block-there : (f : Page) (p : ℕ) → at < length file → size ≤ length file - at - 3 → f ≡ pageOf model (getD file (at + 2) 0) → f ≡ At p → getD seen p false ≡ false
+        → BlockAt model seen file at p (at + 3) (at + 3 + size) (eqb n 65535)
+    block-there f p l g e z s =
+        let a : at + (3 + size) ≡ at + 3 + size = omega arith in
+        let b : at + 3 + size - (at + 3) ≡ size = omega arith in
+        record {
+          block = block-data g ∙ rw (← e, z, s, a, b);
+          page-small = page-small model _ f p e z;
+          further = omega arith;
+          ordered = omega arith;
+          within = omega arith;
+        }
+
+  -- what the head tells of the block
+  pub head-says : (r : BlockHead) → at < length file → r ≡ headAt model seen file at → HeadSays model seen file at r
+  unfolding headAt
+  head-says r l e = subst (HeadSays model seen file at) (sym e) (first (ltb (length file - at) 3) refl)
+    where
+      n : ℕ
+      n = wordAt file at
+
+      on : (h : 3 ≤ length file - at) (g : sizeOf n ≤ length file - at - 3) (f : Page) → f ≡ pageOf model (getD file (at + 2) 0)
+          → HeadSays model seen file at (headOn f seen (at + 3) (at + 3 + sizeOf n) (eqb n 65535))
+      on h g NoPage q = block-nowhere n (sizeOf n) h refl refl NoPage g q refl
+      on h g (At p) q = go (getD seen p false) refl
+        where
+          go : (b : Bool) → getD seen p false ≡ b → HeadSays model seen file at (choose b (Bad BlockTwice) (Data p (at + 3) (at + 3 + sizeOf n) (eqb n 65535)))
+          go true s = block-twice n (sizeOf n) h refl refl (At p) p g q refl s
+          go false s = block-there n (sizeOf n) h refl refl (At p) p l g q refl s
+
+      second : 3 ≤ length file - at → (b : Bool) → ltb (length file - at - 3) (sizeOf n) ≡ b
+          → HeadSays model seen file at
+          (choose b (Bad BlockCut) (headOn (pageOf model (getD file (at + 2) 0)) seen (at + 3) (at + 3 + sizeOf n) (eqb n 65535)))
+      second h true t = block-cut n (sizeOf n) h refl refl (ltb-true _ _ t)
+      second h false t = on h (ltb-false _ _ t) (pageOf model (getD file (at + 2) 0)) refl
+
+      first : (b : Bool) → ltb (length file - at) 3 ≡ b
+          → HeadSays model seen file at
+          (choose b (Bad BlockCut)
+          (choose (ltb (length file - at - 3) (sizeOf n)) (Bad BlockCut)
+          (headOn (pageOf model (getD file (at + 2) 0)) seen (at + 3) (at + 3 + sizeOf n) (eqb n 65535))))
+      first true t = block-short (ltb-true _ _ t)
+      first false t = second (ltb-false _ _ t) (ltb (length file - at - 3) (sizeOf n)) refl
+
+-- a page from data as they are
+pub fills-plain : (plain : Bool) (src before after : List ℕ) → plain ≡ true → length src ≡ length before
+    → after ≡ take (length src) src ++ drop (length src) before → Fills plain src before after Good
+fills-plain plain src before after e l q =
+    record {
+      answer = rw (e, eq-eqb _ _ l);
+      memory = rw (e, eq-eqb _ _ l) (q ∙ rw (take-length src, drop-of-length-le before {i = length src} (omega arith), append-nil));
+    }
+
+pub fills-other : (plain : Bool) (src before after : List ℕ) → plain ≡ true → (length src ≡ length before → ⊥)
+    → after ≡ replicate (length before) 0 → Fills plain src before after WrongLength
+fills-other plain src before after e l q = record { answer = rw (e, ne-eqb _ _ l); memory = rw (e, ne-eqb _ _ l) q }
+
+pub fills-packed : (plain : Bool) (src before after : List ℕ) (r : Unpacked) → plain ≡ false → Unpacks (unpacked src) (length before) r after → Fills plain src before after r
+fills-packed plain src before after r e u = record { answer = rw e (u .answer); memory = rw e (u .memory) }
