@@ -60,8 +60,9 @@ static void calls(uint32_t (*call)(uint8_t *, size_t, uint8_t *, size_t, uint8_t
     for (int k = 0; k < CALLS; k++) call(head, sizeof head, area, sizeof area, journal, sizeof journal, &standing, &total);
 }
 
-/* The five parts. What comes before the clock starts is done by the same build: the processor remembers where it went. */
-static double part(int which, const struct build *by)
+/* The seconds of one of the five parts. What comes before the clock starts is done by the same build: the processor remembers
+   where it went. */
+static double seconds_of(int which, const struct build *by)
 {
     double start, spent = 0;
     for (int i = 0; i < count; i++) {
@@ -99,7 +100,8 @@ int main(int argc, char **argv)
     for (which = 0; which < 5; which++) {
         for (round = 0; round < ROUNDS; round++) {
             double a, b;
-            if (round % 2) { a = part(which, &ours); b = part(which, &theirs); } else { b = part(which, &theirs); a = part(which, &ours); }
+            if (round % 2) { a = seconds_of(which, &ours); b = seconds_of(which, &theirs); }
+            else { b = seconds_of(which, &theirs); a = seconds_of(which, &ours); }
             ratio[round] = a / b;
         }
         qsort(ratio, ROUNDS, sizeof *ratio, less);

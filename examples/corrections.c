@@ -29,7 +29,7 @@ static void must(uint32_t number, const char *what)
     exit(1);
 }
 
-static void show(const char *done)
+static void print_state(const char *done)
 {
     unsigned paged = header[SNAP_AT_OUT_7FFD] & SNAP_7FFD_PAGE;
     printf("%-28s page %u is at C000; 0 says \"%.14s\", 3 says \"%.14s\"\n", done, paged, (const char *)area,
@@ -53,19 +53,19 @@ int main(int argc, char **argv)
     size_t file_length = open_file(argc > 1 ? argv[1] : "samples", "museum-128k.z80");
     must(snap_log_start(one.steps, sizeof one.steps, &one.standing, &one.total), "log one");
     must(snap_log_start(two.steps, sizeof two.steps, &two.standing, &two.total), "log two");
-    show("opened");
+    print_state("opened");
 
     must(snap_correct_byte(LENT(one), 0xC00D, 'X'), "byte");
-    show("one: byte C00D 58");
+    print_state("one: byte C00D 58");
     printf("    its step keeps page %u, offset %02X%02X, old %02X, new %02X\n", one.steps[SNAP_STEP_INDEX],
            one.steps[SNAP_STEP_OFFSET + 1], one.steps[SNAP_STEP_OFFSET], one.steps[SNAP_STEP_OLD], one.steps[SNAP_STEP_NEW]);
     uint8_t paging = (uint8_t)((header[SNAP_AT_OUT_7FFD] & ~SNAP_7FFD_PAGE) | OTHER_PAGE);
     must(snap_correct_out(LENT(two), paging), "OUT");
-    show("two: OUT 1B");
+    print_state("two: OUT 1B");
     must(snap_undo(LENT(one)), "undo");
-    show("one: undo");
+    print_state("one: undo");
     must(snap_undo(LENT(two)), "undo");
-    show("two: undo");
+    print_state("two: undo");
 
     uint64_t length;
     must(snap_z80_write(header, sizeof header, area, sizeof area, out, sizeof out, &length), "writing");

@@ -9,7 +9,7 @@
 
 #define SLOTS 4
 
-static struct slot {
+static struct server_slot {
     uint8_t header[SNAP_HEADER_SIZE], area[SNAP_AREA_SIZE];
 } slots[SLOTS];
 
@@ -24,7 +24,7 @@ static const struct request {
 static uint8_t file[SNAP_READ_MOST + 1];
 
 /* Reads the file into the slot and finds the page in it; 0, or the number that the visitor is told. */
-static uint32_t serve(size_t file_length, uint8_t asked, struct slot *slot, const uint8_t **page, uint64_t *length)
+static uint32_t serve(size_t file_length, uint8_t asked, struct server_slot *slot, const uint8_t **page, uint64_t *length)
 {
     static uint8_t rom[SNAP_ROM_SIZE_128K];
     uint32_t number = snap_z80_read(file, file_length, slot->area, sizeof slot->area, slot->header, sizeof slot->header);
@@ -41,7 +41,7 @@ static uint32_t serve(size_t file_length, uint8_t asked, struct slot *slot, cons
 }
 
 /* How much of the place of a page is not zero: what the last visitor could have left there. */
-static unsigned left_over(const struct slot *slot, unsigned page)
+static unsigned left_over(const struct server_slot *slot, unsigned page)
 {
     unsigned count = 0;
     for (unsigned at = 0; at < SNAP_PAGE_SIZE; at++)
@@ -49,7 +49,7 @@ static unsigned left_over(const struct slot *slot, unsigned page)
     return count;
 }
 
-static void answer(size_t file_length, uint8_t asked, struct slot *slot)
+static void answer(size_t file_length, uint8_t asked, struct server_slot *slot)
 {
     const uint8_t *page = NULL;
     uint64_t length = 0;

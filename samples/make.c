@@ -38,7 +38,7 @@ static uint8_t attribute(char letter)
     return 0;
 }
 
-static void take_line(FILE *from, char *line, size_t length)
+static void take_row(FILE *from, char *line, size_t length)
 {
     check(fgets(line, 80, from) != NULL && strcspn(line, "\n") == length, "the picture has another form");
 }
@@ -52,18 +52,18 @@ static void draw_blocks(uint8_t *screen, const char *line, unsigned row)
                 screen[y / 64 * 2048 + y % 8 * 256 + y % 64 / 8 * 32 + x / 2] |= x % 2 == 0 ? 0xF0 : 0x0F;
 }
 
-static void draw(const char *name, uint8_t *screen)
+static void fill_screen(const char *name, uint8_t *screen)
 {
     char line[80];
     FILE *from = fopen(name, "r");
     check(from != NULL, "the picture cannot be opened");
     for (unsigned row = 0; row < 48; row++) {
-        take_line(from, line, 64);
+        take_row(from, line, 64);
         draw_blocks(screen, line, row);
     }
-    take_line(from, line, 0);
+    take_row(from, line, 0);
     for (unsigned row = 0; row < 24; row++) {
-        take_line(from, line, 32);
+        take_row(from, line, 32);
         for (unsigned x = 0; x < 32; x++)
             screen[6144 + row * 32 + x] = attribute(line[x]);
     }
@@ -111,7 +111,7 @@ int main(int argc, char **argv)
     check(argc == 5, "make_sample PICTURE CODE OUT-48K OUT-128K");
     make_machine();
     load_code(argv[2]);
-    draw(argv[1], area + 5 * SNAP_PAGE_SIZE);
+    fill_screen(argv[1], area + 5 * SNAP_PAGE_SIZE);
     save(argv[3]);
 
     /* the 128K machine shows page 7, and each of its other pages says which it is */

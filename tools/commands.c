@@ -25,8 +25,8 @@ static const char help_text[] =
     "counts and pages are decimal.\n";
 
 /* A line that is being run. */
-struct run {
-    struct session *session;
+struct running_line {
+    struct editing *session;
     const char *place, *form;
     struct line line;
 };
@@ -39,24 +39,24 @@ struct run {
 static const char an_address[] = "address, 0 to FFFF", a_byte[] = "value from 0 to FF";
 
 /* The line is not of the form that its command has. */
-static enum status wrong(const struct run *run)
+static enum status wrong(const struct running_line *run)
 {
     return misused("%s: %s", run->place, run->form);
 }
 
-static const char *word(const struct run *run, unsigned at)
+static const char *word(const struct running_line *run, unsigned at)
 {
     return run->line.words[at].text;
 }
 
 /* A word is not what the form has in its place. */
-static enum status wrong_word(const struct run *run, unsigned at, const char *expected)
+static enum status wrong_word(const struct running_line *run, unsigned at, const char *expected)
 {
     return misused("%s: '%s' is no %s; %s", run->place, shown_in_short(word(run, at)), expected, run->form);
 }
 
 /* After a call: what was done, or the refusal. */
-static enum status told(const struct run *run, uint32_t number, const char *done, uint64_t step, bool back)
+static enum status told(const struct running_line *run, uint32_t number, const char *done, uint64_t step, bool back)
 {
     if (number != SNAP_ACCEPTED)
         return refused(run->place, number);
@@ -66,13 +66,13 @@ static enum status told(const struct run *run, uint32_t number, const char *done
     return ACCEPTED;
 }
 
-static enum status corrected(const struct run *run, uint32_t number)
+static enum status corrected(const struct running_line *run, uint32_t number)
 {
     return told(run, number, "corrected: ", run->session->log.standing - 1, false);
 }
 
 /* Bytes from an address on, all or none: with room for all of them only the first can be refused. */
-static enum status correct_bytes(const struct run *run, unsigned long address, const uint8_t *bytes, size_t count)
+static enum status correct_bytes(const struct running_line *run, unsigned long address, const uint8_t *bytes, size_t count)
 {
     const struct log *log = &run->session->log;
     if (address + count > 0x10000)
@@ -85,7 +85,7 @@ static enum status correct_bytes(const struct run *run, unsigned long address, c
     return status;
 }
 
-static enum status do_byte(const struct run *run)
+static enum status do_byte(const struct running_line *run)
 {
     uint8_t bytes[LINE_WORDS];
     unsigned long address, value;
@@ -100,7 +100,7 @@ static enum status do_byte(const struct run *run)
     return correct_bytes(run, address, bytes, count);
 }
 
-static enum status do_text(const struct run *run)
+static enum status do_text(const struct running_line *run)
 {
     unsigned long address;
     const char *text = word(run, 2);
@@ -115,7 +115,7 @@ static enum status do_text(const struct run *run)
     return correct_bytes(run, address, (const uint8_t *)text, length);
 }
 
-static enum status do_pair(const struct run *run)
+static enum status do_pair(const struct running_line *run)
 {
     unsigned long value;
     unsigned pair = 0;
@@ -128,7 +128,7 @@ static enum status do_pair(const struct run *run)
     return corrected(run, snap_correct_pair(LENT(run->session), (uint8_t)pair, (uint16_t)value));
 }
 
-static enum status do_out(const struct run *run)
+static enum status do_out(const struct running_line *run)
 {
     unsigned long value;
     if (!take_hex(word(run, 1), 0xFF, &value))
@@ -137,7 +137,7 @@ static enum status do_out(const struct run *run)
 }
 
 /* More are asked for than stand, or wait: the refusal says how many do. */
-static enum status too_few(const struct run *run, bool back, unsigned count)
+static enum status too_few(const struct running_line *run, bool back, unsigned count)
 {
     char hint[HINT_SIZE] = "";
     if (count > 0)
@@ -146,9 +146,9 @@ static enum status too_few(const struct run *run, bool back, unsigned count)
 }
 
 /* Undo or redo, as many times as the line says, if there are so many. */
-static enum status move(const struct run *run, bool back)
+static enum status move(const struct running_line *run, bool back)
 {
-    struct session *session = run->session;
+    struct editing *session = run->session;
     unsigned long count = 1;
     if (run->line.count == 2 && !take_decimal(word(run, 1), SNAP_LOG_STEPS, &count))
         return wrong_word(run, 1, "count up to 4096");
@@ -165,17 +165,17 @@ static enum status move(const struct run *run, bool back)
     return status;
 }
 
-static enum status do_undo(const struct run *run)
+static enum status do_undo(const struct running_line *run)
 {
     return move(run, true);
 }
 
-static enum status do_redo(const struct run *run)
+static enum status do_redo(const struct running_line *run)
 {
     return move(run, false);
 }
 
-static enum status do_list(const struct run *run)
+static enum status do_list(const struct running_line *run)
 {
     const struct log *log = &run->session->log;
     printf("standing: %u, waiting: %u\n", (unsigned)log->standing, (unsigned)(log->total - log->standing));
@@ -186,22 +186,22 @@ static enum status do_list(const struct run *run)
     return ACCEPTED;
 }
 
-static enum status do_info(const struct run *run)
+static enum status do_info(const struct running_line *run)
 {
     print_info(stdout, run->session->words->file, &run->session->opened);
     return ACCEPTED;
 }
 
-static enum status do_view(const struct run *run)
+static enum status do_view(const struct running_line *run)
 {
-    struct part part;
-    const char *unreadable = take_part(word(run, 1), &part);
+    struct view_range range;
+    const char *unreadable = take_view_range(word(run, 1), &range);
     if (unreadable != NULL)
         return misused("%s: '%s' %s", run->place, shown_in_short(word(run, 1)), unreadable);
-    return print_part(stdout, run->place, run->session->words->file, &run->session->opened, &part, NULL);
+    return print_view_range(stdout, run->place, run->session->words->file, &run->session->opened, &range, NULL);
 }
 
-static enum status do_save(const struct run *run)
+static enum status do_save(const struct running_line *run)
 {
     const char *name = NULL;
     bool force = false;
@@ -217,13 +217,13 @@ static enum status do_save(const struct run *run)
     return save_session(run->session, name, force);
 }
 
-static enum status do_quit(const struct run *run)
+static enum status do_quit(const struct running_line *run)
 {
     run->session->ended = true;
     return ACCEPTED;
 }
 
-static enum status do_help(const struct run *run)
+static enum status do_help(const struct running_line *run)
 {
     (void)run;
     fputs(help_text, stdout);
@@ -235,7 +235,7 @@ static const struct form {
     const char *name;
     unsigned least, most;
     const char *form;
-    enum status (*run)(const struct run *);
+    enum status (*run)(const struct running_line *);
 } commands[] = {
     {"byte", 3, LINE_WORDS, "byte takes an address and 1 to 64 values, as in: byte 8000 7E", do_byte},
     {"text", 3, 3, "text takes an address and a text in double quotes, as in: text 8000 \"HELLO\"", do_text},
@@ -259,9 +259,9 @@ const char *command_name(size_t at)
     return at < sizeof commands / sizeof commands[0] ? commands[at].name : NULL;
 }
 
-enum status run_line(struct session *session, const char *place, char *text)
+enum status run_line(struct editing *session, const char *place, char *text)
 {
-    struct run run = {.session = session, .place = place};
+    struct running_line run = {.session = session, .place = place};
     const char *unreadable = take_words(text, &run.line);
     if (unreadable != NULL)
         return misused("%s: %s", place, unreadable);

@@ -8,7 +8,7 @@
 
 #define SCRIPT_MOST (1u << 20)
 
-static struct session session;
+static struct editing session;
 
 /* A script is plain text. */
 static enum status check_text(const char *name, const char *text, size_t length, bool first)

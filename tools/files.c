@@ -52,7 +52,7 @@ enum status read_bounded(const char *path, uint8_t *bytes, size_t most, size_t *
     return status;
 }
 
-enum status open_to_look(const char *path, struct opened *opened)
+enum status open_to_look(const char *path, struct snapshot *opened)
 {
     static uint8_t file[SNAP_READ_MOST + 1];
     const char *name = input_name(path);
@@ -67,7 +67,7 @@ enum status open_to_look(const char *path, struct opened *opened)
     return number == SNAP_ACCEPTED ? ACCEPTED : refused_file(name, number, file, opened->length);
 }
 
-enum status open_snapshot(const char *path, struct opened *opened)
+enum status open_snapshot(const char *path, struct snapshot *opened)
 {
     enum status status = open_to_look(path, opened);
     if (status == ACCEPTED && opened->says_16k)

@@ -65,7 +65,7 @@ enum status take_sought(const char *word, bool text, bool hex, struct sought *so
 }
 
 /* A page, and those that follow it in memory as paging is now; none follows at C000, or where it is not paged in. */
-static size_t lay_in_a_row(const struct machine *m, const struct opened *opened, unsigned page, uint8_t *row)
+static size_t lay_in_a_row(const struct machine *m, const struct snapshot *opened, unsigned page, uint8_t *row)
 {
     unsigned quarter = 1;
     size_t length = 0;
@@ -112,7 +112,7 @@ static void print_not_found(FILE *to, const struct sought *sought)
     fprintf(to, "%s%s\n", sought->length > most ? " .." : "", sought->hint);
 }
 
-void print_places(FILE *to, const struct opened *opened, const struct sought *sought)
+void print_places(FILE *to, const struct snapshot *opened, const struct sought *sought)
 {
     static uint8_t row[MEMORY_SIZE];
     struct machine m = machine_of(opened->header);

@@ -1,7 +1,7 @@
 /* info.c: a machine, and a file, as a person reads them. */
 #include "tool.h"
 
-unsigned bytes_not_zero(const struct opened *opened, unsigned page)
+unsigned bytes_not_zero(const struct snapshot *opened, unsigned page)
 {
     unsigned count = 0;
     for (unsigned offset = 0; offset < SNAP_PAGE_SIZE; offset++)
@@ -66,7 +66,7 @@ static void print_page_places(FILE *to, const struct machine *m, unsigned page)
     fprintf(to, "%-*s", page_places(m, m->seen[3], paged_twice) == 2 ? 26 : 12, text);
 }
 
-static void print_pages(FILE *to, const struct machine *m, const struct opened *opened)
+static void print_pages(FILE *to, const struct machine *m, const struct snapshot *opened)
 {
     const char *head = "Pages      ";
     for (unsigned page = 0; page < 8; page++) {
@@ -79,7 +79,7 @@ static void print_pages(FILE *to, const struct machine *m, const struct opened *
     }
 }
 
-static void print_machine(FILE *to, const struct opened *opened, const char *note)
+static void print_machine(FILE *to, const struct snapshot *opened, const char *note)
 {
     struct machine m = machine_of(opened->header);
     fprintf(to, "Machine    %s%s, attachment: %s\n", m.is_128k ? "128K" : "48K", note, m.attachment);
@@ -89,13 +89,13 @@ static void print_machine(FILE *to, const struct opened *opened, const char *not
     print_pages(to, &m, opened);
 }
 
-void print_info(FILE *to, const char *file, const struct opened *opened)
+void print_info(FILE *to, const char *file, const struct snapshot *opened)
 {
     fprintf(to, "File       %s\n", shown(file));
     print_machine(to, opened, "");
 }
 
-void print_file_info(FILE *to, const char *file, const struct opened *opened)
+void print_file_info(FILE *to, const char *file, const struct snapshot *opened)
 {
     fprintf(to, "File       %s\n", shown(file));
     fprintf(to, "Format     version %u, %u bytes\n", opened->version, (unsigned)opened->length);

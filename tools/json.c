@@ -63,7 +63,7 @@ static void print_json_settings(FILE *to, const struct machine *m)
     fputs("},\n", to);
 }
 
-static void print_json_pages(FILE *to, const struct machine *m, const struct opened *opened)
+static void print_json_pages(FILE *to, const struct machine *m, const struct snapshot *opened)
 {
     const char *before = "";
     fputs("  \"pages\": [", to);
@@ -80,7 +80,7 @@ static void print_json_pages(FILE *to, const struct machine *m, const struct ope
     fputs("\n  ]\n", to);
 }
 
-void print_json(FILE *to, const char *file, const struct opened *opened)
+void print_json(FILE *to, const char *file, const struct snapshot *opened)
 {
     struct machine m = machine_of(opened->header);
     fputs("{\n  \"file\": ", to);

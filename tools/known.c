@@ -5,7 +5,7 @@
 
 #include "tool.h"
 
-static struct known *find(struct known *known, const char *target)
+static struct known_file *find(struct known_file *known, const char *target)
 {
     while (known != NULL && strcmp(known->target, target) != 0)
         known = known->next;
@@ -13,9 +13,9 @@ static struct known *find(struct known *known, const char *target)
 }
 
 /* Where there is no memory the file stays unknown, and is not replaced. */
-void know(struct known **list, const char *target, struct state state)
+void know(struct known_file **list, const char *target, struct file_state state)
 {
-    struct known *known = find(*list, target);
+    struct known_file *known = find(*list, target);
     if (known == NULL && (known = malloc(sizeof *known + strlen(target) + 1)) != NULL) {
         strcpy(known->target, target);
         known->next = *list;
@@ -25,18 +25,18 @@ void know(struct known **list, const char *target, struct state state)
         known->state = state;
 }
 
-void know_input(struct known **list, const char *name)
+void know_input(struct known_file **list, const char *name)
 {
     char target[PATH_ROOM];
-    struct state state;
+    struct file_state state;
     if (realpath(name, target) != NULL && look_at(target, &state))
         know(list, target, state);
 }
 
-const char *changed(struct known *list, const char *target, const struct state *now)
+const char *changed(struct known_file *list, const char *target, const struct file_state *now)
 {
-    const struct known *known = find(list, target);
-    struct state before = known != NULL ? known->state : (struct state){0};
+    const struct known_file *known = find(list, target);
+    struct file_state before = known != NULL ? known->state : (struct file_state){0};
     if (!before.present && now->present)
         return "is there and was not opened or saved here; 'save --force' replaces it, 'save NAME' saves elsewhere";
     if (before.present && !now->present)
@@ -46,10 +46,10 @@ const char *changed(struct known *list, const char *target, const struct state *
     return NULL;
 }
 
-void forget(struct known *known)
+void forget(struct known_file *known)
 {
     while (known != NULL) {
-        struct known *next = known->next;
+        struct known_file *next = known->next;
         free(known);
         known = next;
     }

@@ -22,7 +22,7 @@ static uint32_t take_u32(const uint8_t *from)
     return from[0] | (uint32_t)from[1] << 8 | (uint32_t)from[2] << 16 | (uint32_t)from[3] << 24;
 }
 
-static uint32_t machine_sum(const struct opened *opened)
+static uint32_t machine_sum(const struct snapshot *opened)
 {
     uLong sum = crc32(0, opened->header, sizeof opened->header);
     return (uint32_t)crc32(sum, opened->area, sizeof opened->area);
@@ -54,7 +54,7 @@ static bool exists(const char *path)
     return stat(path, &about) == 0;
 }
 
-enum status load_log(const char *path, const struct opened *opened, bool strict, struct log *log)
+enum status load_log(const char *path, const struct snapshot *opened, bool strict, struct log *log)
 {
     static uint8_t kept[LOG_FILE_MOST + 1];
     size_t length;
@@ -78,7 +78,7 @@ enum status load_log(const char *path, const struct opened *opened, bool strict,
     return ACCEPTED;
 }
 
-size_t log_bytes(const struct opened *opened, const struct log *log, uint8_t file[LOG_FILE_MOST])
+size_t log_bytes(const struct snapshot *opened, const struct log *log, uint8_t file[LOG_FILE_MOST])
 {
     size_t length = HEAD + (size_t)log->total * SNAP_LOG_STEP;
     memcpy(file, mark, sizeof mark);

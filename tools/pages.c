@@ -10,7 +10,7 @@ unsigned page_places(const struct machine *m, unsigned page, unsigned places[2])
     return count;
 }
 
-enum status page_bytes(const char *file, const struct opened *opened, unsigned long page, const char *rom_file,
+enum status page_bytes(const char *file, const struct snapshot *opened, unsigned long page, const char *rom_file,
                        const uint8_t **bytes)
 {
     static uint8_t rom[SNAP_ROM_SIZE_128K + 1];

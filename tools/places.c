@@ -75,15 +75,15 @@ bool same_file(const char *one, const char *other)
 static uint8_t seen[SNAP_READ_MOST + 1];
 static size_t seen_length;
 
-struct state state_of_bytes(const uint8_t *bytes, size_t length)
+struct file_state state_of_bytes(const uint8_t *bytes, size_t length)
 {
-    return (struct state){.present = true, .length = length, .sum = (uint32_t)crc32(0, bytes, (uInt)length)};
+    return (struct file_state){.present = true, .length = length, .sum = (uint32_t)crc32(0, bytes, (uInt)length)};
 }
 
-bool look_at(const char *target, struct state *state)
+bool look_at(const char *target, struct file_state *state)
 {
     struct stat about;
-    *state = (struct state){0};
+    *state = (struct file_state){0};
     int from = open(target, O_RDONLY | O_NONBLOCK | O_CLOEXEC);
     if (from < 0)
         return errno == ENOENT;
@@ -99,7 +99,7 @@ bool look_at(const char *target, struct state *state)
 
 static bool is_snapshot(void)
 {
-    static struct opened opened;
+    static struct snapshot opened;
     return seen_length == 0 || snap_z80_read(seen, seen_length, opened.area, sizeof opened.area, opened.header,
                                              sizeof opened.header) == SNAP_ACCEPTED;
 }
@@ -123,7 +123,7 @@ static bool may_write(const char *target)
     return faccessat(AT_FDCWD, target, W_OK, AT_EACCESS) == 0;
 }
 
-static enum status check_kind(const char *name, enum kind kind, bool force)
+static enum status check_kind(const char *name, enum file_kind kind, bool force)
 {
     if (kind == LOG_FILE)
         return check_log(name, seen, seen_length);
@@ -146,7 +146,7 @@ static bool may_rename_over(const char *folder, const char *target)
     return (around.st_mode & S_ISVTX) == 0 || user == around.st_uid || user == about.st_uid;
 }
 
-enum status check_target(const char *name, const char *target, enum kind kind, bool force, struct state *state)
+enum status check_target(const char *name, const char *target, enum file_kind kind, bool force, struct file_state *state)
 {
     char folder[PATH_ROOM];
     folder_of(target, folder);

@@ -71,7 +71,7 @@ static char *next_line(void)
 }
 
 /* The end of input is as a quit. */
-static void run_typed(struct session *session, char *line)
+static void run_typed(struct editing *session, char *line)
 {
     if (line == NULL) {
         fputs("\n", stdout);
@@ -84,7 +84,7 @@ static void run_typed(struct session *session, char *line)
 }
 
 /* A quit with changes that are not saved is warned, unless the line before was a quit that was. */
-enum status from_prompt(struct session *session)
+enum status from_prompt(struct editing *session)
 {
     bool warned = false;
     begin();

@@ -11,17 +11,17 @@ static bool take_address(const char *text, size_t length, unsigned long *address
     return snprintf(word, sizeof word, "%.*s", (int)length, text) < (int)sizeof word && take_hex(word, 0xFFFF, address);
 }
 
-const char *take_part(const char *text, struct part *part)
+const char *take_view_range(const char *text, struct view_range *range)
 {
     static const char neither[] = "is neither a page, as in 5, nor a range of addresses, as in 4000..57FF";
     const char *dots = strstr(text, "..");
-    part->is_range = dots != NULL;
+    range->is_range = dots != NULL;
     if (dots == NULL) {
         /* a number that is too long for strtoul becomes its greatest, which is no page */
-        part->page = strtoul(text, NULL, 10);
+        range->page = strtoul(text, NULL, 10);
         return text[0] != 0 && text[strspn(text, "0123456789")] == 0 ? NULL : neither;
     }
-    if (!take_address(text, (size_t)(dots - text), &part->first) || !take_address(dots + 2, strlen(dots + 2), &part->last))
+    if (!take_address(text, (size_t)(dots - text), &range->first) || !take_address(dots + 2, strlen(dots + 2), &range->last))
         return neither;
-    return part->first <= part->last ? NULL : "is no range of addresses: the first is above the last";
+    return range->first <= range->last ? NULL : "is no range of addresses: the first is above the last";
 }

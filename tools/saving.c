@@ -130,9 +130,9 @@ static void close_folders(const int folders[2])
     }
 }
 
-static enum status check_unchanged(const struct output *output, struct known **known)
+static enum status check_unchanged(const struct output *output, struct known_file **known)
 {
-    struct state state;
+    struct file_state state;
     enum status status = check_target(output->name, output->target, output->kind, output->force, &state);
     const char *sentence = NULL;
     if (status == ACCEPTED && known != NULL && !output->force)
@@ -140,7 +140,7 @@ static enum status check_unchanged(const struct output *output, struct known **k
     return sentence == NULL ? status : cannot(output->name, sentence);
 }
 
-static enum status rename_all(struct output *outputs, unsigned count, struct known **known)
+static enum status rename_all(struct output *outputs, unsigned count, struct known_file **known)
 {
     for (unsigned at = 0; at < count; at++) {
         struct output *output = &outputs[at];
@@ -157,7 +157,7 @@ static enum status rename_all(struct output *outputs, unsigned count, struct kno
     return ACCEPTED;
 }
 
-static enum status put_in_place(struct output *outputs, unsigned count, struct known **known)
+static enum status put_in_place(struct output *outputs, unsigned count, struct known_file **known)
 {
     int folders[2];
     enum status status = ACCEPTED;
@@ -172,7 +172,7 @@ static enum status put_in_place(struct output *outputs, unsigned count, struct k
     return status;
 }
 
-enum status save_files(struct output *outputs, unsigned count, struct known **known)
+enum status save_files(struct output *outputs, unsigned count, struct known_file **known)
 {
     enum status status = ACCEPTED;
     for (unsigned at = 0; at < count && status == ACCEPTED; at++)
@@ -197,7 +197,7 @@ enum status save_files(struct output *outputs, unsigned count, struct known **kn
     return status;
 }
 
-enum status snapshot_bytes(const char *path, const struct opened *opened, uint8_t file[SNAP_FILE_MOST], size_t *length)
+enum status snapshot_bytes(const char *path, const struct snapshot *opened, uint8_t file[SNAP_FILE_MOST], size_t *length)
 {
     uint64_t written;
     uint32_t number = snap_z80_write(opened->header, sizeof opened->header, opened->area, sizeof opened->area, file,

@@ -16,7 +16,7 @@ static enum status log_beside_target(const char *file, char name[PATH_ROOM])
 }
 
 /* Where the log of the input or of the output is kept: beside it, or where --log says. */
-static enum status log_name(const struct session *session, const char *file, char name[PATH_ROOM])
+static enum status log_name(const struct editing *session, const char *file, char name[PATH_ROOM])
 {
     if (session->words->log == NULL)
         return log_beside_target(file, name);
@@ -25,9 +25,9 @@ static enum status log_name(const struct session *session, const char *file, cha
     return ACCEPTED;
 }
 
-static enum status check_and_know(struct session *session, const char *name, enum kind kind, char target[PATH_ROOM])
+static enum status check_and_know(struct editing *session, const char *name, enum file_kind kind, char target[PATH_ROOM])
 {
-    struct state state;
+    struct file_state state;
     enum status status = target_of(name, target);
     if (status == ACCEPTED)
         status = check_target(name, target, kind, session->words->force, &state);
@@ -36,7 +36,7 @@ static enum status check_and_know(struct session *session, const char *name, enu
     return status;
 }
 
-static enum status check_places(struct session *session)
+static enum status check_places(struct editing *session)
 {
     const char *output = session->words->output;
     char log[PATH_ROOM], target[PATH_ROOM], *log_target = session->log_target;
@@ -52,7 +52,7 @@ static enum status check_places(struct session *session)
     return status == ACCEPTED ? check_and_know(session, log, LOG_FILE, log_target) : status;
 }
 
-enum status begin_session(struct session *session, const struct edit_words *words)
+enum status begin_session(struct editing *session, const struct edit_words *words)
 {
     char log[PATH_ROOM];
     struct log *kept = &session->log;
@@ -73,7 +73,7 @@ enum status begin_session(struct session *session, const struct edit_words *word
 }
 
 /* A name that is saved under is not the place of a log that --log names, if there is a file or not. */
-static enum status check_name(const struct session *session, const char *name)
+static enum status check_name(const struct editing *session, const char *name)
 {
     char target[PATH_ROOM];
     if (session->words->log == NULL)
@@ -84,7 +84,7 @@ static enum status check_name(const struct session *session, const char *name)
     return status;
 }
 
-enum status save_session(struct session *session, const char *name, bool force)
+enum status save_session(struct editing *session, const char *name, bool force)
 {
     static uint8_t file[SNAP_FILE_MOST], log_file[LOG_FILE_MOST];
     static struct output outputs[2];

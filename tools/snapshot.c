@@ -5,7 +5,7 @@
 
 #include "tool.h"
 
-static struct opened opened;
+static struct snapshot opened;
 
 static enum status run_info(const struct words *words)
 {
@@ -23,8 +23,8 @@ static enum status run_view(const struct words *words)
 {
     const char *file = words->names[0], *rom = words->options[OPTION_ROM];
     bool raw = words->options[OPTION_RAW] != NULL;
-    struct part part;
-    const char *unreadable = take_part(words->names[1], &part);
+    struct view_range range;
+    const char *unreadable = take_view_range(words->names[1], &range);
     if (unreadable != NULL)
         return misused("'%s' %s", words->names[1], unreadable);
     enum status status = raw ? check_output("-") : ACCEPTED;
@@ -33,7 +33,7 @@ static enum status run_view(const struct words *words)
     if (status != ACCEPTED)
         return status;
     file = input_name(file);
-    return raw ? put_part(file, &opened, &part, rom) : print_part(stdout, file, file, &opened, &part, rom);
+    return raw ? put_view_range(file, &opened, &range, rom) : print_view_range(stdout, file, file, &opened, &range, rom);
 }
 
 static enum status run_find(const struct words *words)

@@ -22,7 +22,7 @@ enum status check_output(const char *path)
     return ACCEPTED;
 }
 
-enum status output_bytes(const char *path, enum kind kind, bool force, const uint8_t *bytes, size_t length)
+enum status output_bytes(const char *path, enum file_kind kind, bool force, const uint8_t *bytes, size_t length)
 {
     struct output output = {.name = path, .kind = kind, .force = force, .bytes = bytes, .length = length};
     if (!is_stream(path))
@@ -32,7 +32,7 @@ enum status output_bytes(const char *path, enum kind kind, bool force, const uin
     return ACCEPTED;
 }
 
-enum status output_snapshot(const char *path, const struct opened *opened, bool force)
+enum status output_snapshot(const char *path, const struct snapshot *opened, bool force)
 {
     static uint8_t file[SNAP_FILE_MOST];
     size_t length;

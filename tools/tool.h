@@ -11,7 +11,7 @@
 enum status { ACCEPTED = 0, REFUSED = 1, USAGE = 2, SYSTEM = 3 };
 
 /* An opened file: the machine as its header, its memory, and what the file says of itself. */
-struct opened {
+struct snapshot {
     uint8_t header[SNAP_HEADER_SIZE];
     uint8_t area[SNAP_AREA_SIZE];
     unsigned version;
@@ -59,14 +59,14 @@ enum status read_bounded(const char *path, uint8_t *bytes, size_t most, size_t *
 /* Reads until the end, or until there is no more room; -1 for an error. */
 long read_up_to(int from, uint8_t *bytes, size_t room);
 /* Opens a file, or standard input, to look at it; open_snapshot() also tells what will be different when it is saved. */
-enum status open_to_look(const char *path, struct opened *opened);
-enum status open_snapshot(const char *path, struct opened *opened);
+enum status open_to_look(const char *path, struct snapshot *opened);
+enum status open_snapshot(const char *path, struct snapshot *opened);
 
 /* places.c: where a file is saved. Its target is the file itself: an absolute path, links followed. */
 #define PATH_ROOM 4096
-enum kind { SNAPSHOT_FILE, PICTURE_FILE, SCREEN_FILE, LOG_FILE };
+enum file_kind { SNAPSHOT_FILE, PICTURE_FILE, SCREEN_FILE, LOG_FILE };
 /* What stands at a target; length and sum tell it from anything else. */
-struct state {
+struct file_state {
     bool present;
     uint64_t length;
     uint32_t sum;
@@ -74,29 +74,29 @@ struct state {
 enum status target_of(const char *name, char target[PATH_ROOM]);
 void folder_of(const char *target, char folder[PATH_ROOM]);
 /* False where it cannot be read. */
-bool look_at(const char *target, struct state *state);
-struct state state_of_bytes(const uint8_t *bytes, size_t length);
+bool look_at(const char *target, struct file_state *state);
+struct file_state state_of_bytes(const uint8_t *bytes, size_t length);
 /* Whether a file of this kind may be saved there. Only `force` replaces one of another kind, or one that may not be written;
    nothing but a log is ever replaced by a log, and nothing that is no regular file by anything. */
-enum status check_target(const char *name, const char *target, enum kind kind, bool force, struct state *state);
+enum status check_target(const char *name, const char *target, enum file_kind kind, bool force, struct file_state *state);
 bool same_file(const char *one, const char *other);
 
 /* known.c: the files that a run has opened or saved, each as it was then. */
-struct known {
-    struct known *next;
-    struct state state;
+struct known_file {
+    struct known_file *next;
+    struct file_state state;
     char target[];
 };
-void know(struct known **list, const char *target, struct state state);
-void know_input(struct known **list, const char *name);
+void know(struct known_file **list, const char *target, struct file_state state);
+void know_input(struct known_file **list, const char *name);
 /* What has happened at a target since it was known, as a sentence, or NULL. A target that is not known was absent. */
-const char *changed(struct known *list, const char *target, const struct state *now);
-void forget(struct known *known);
+const char *changed(struct known_file *list, const char *target, const struct file_state *now);
+void forget(struct known_file *known);
 
 /* saving.c */
 struct output {
     const char *name;
-    enum kind kind;
+    enum file_kind kind;
     bool force, renamed;
     const uint8_t *bytes;
     size_t length;
@@ -104,16 +104,16 @@ struct output {
 };
 /* Saves one file or two under temporary names and renames: until then, and if it fails, what stood there is whole. With
    `known`, what has changed at a target is replaced only by force, and what is saved is known. */
-enum status save_files(struct output *outputs, unsigned count, struct known **known);
-enum status snapshot_bytes(const char *path, const struct opened *opened, uint8_t file[SNAP_FILE_MOST], size_t *length);
+enum status save_files(struct output *outputs, unsigned count, struct known_file **known);
+enum status snapshot_bytes(const char *path, const struct snapshot *opened, uint8_t file[SNAP_FILE_MOST], size_t *length);
 
 /* streams.c: standard input and standard output, which a - stands for. */
 bool is_stream(const char *path);
 const char *input_name(const char *path);
 /* Wrong use where the bytes would go to a terminal. */
 enum status check_output(const char *path);
-enum status output_bytes(const char *path, enum kind kind, bool force, const uint8_t *bytes, size_t length);
-enum status output_snapshot(const char *path, const struct opened *opened, bool force);
+enum status output_bytes(const char *path, enum file_kind kind, bool force, const uint8_t *bytes, size_t length);
+enum status output_snapshot(const char *path, const struct snapshot *opened, bool force);
 
 /* machine.c: what the 86 header bytes say. */
 struct machine {
@@ -140,16 +140,16 @@ bool owns_page(const struct machine *machine, unsigned page);
 /* The addresses at which a page is seen; answers how many there are. */
 unsigned page_places(const struct machine *machine, unsigned page, unsigned places[2]);
 /* Pages are numbers from 0; none above 9 is a page. rom is NULL or the ROM's file. */
-enum status page_bytes(const char *file, const struct opened *opened, unsigned long page, const char *rom,
+enum status page_bytes(const char *file, const struct snapshot *opened, unsigned long page, const char *rom,
                        const uint8_t **bytes);
 
 /* info.c, json.c: print_info() shows a machine, print_file_info() and print_json() a file. */
-void print_info(FILE *to, const char *file, const struct opened *opened);
-void print_file_info(FILE *to, const char *file, const struct opened *opened);
-void print_json(FILE *to, const char *file, const struct opened *opened);
+void print_info(FILE *to, const char *file, const struct snapshot *opened);
+void print_file_info(FILE *to, const char *file, const struct snapshot *opened);
+void print_json(FILE *to, const char *file, const struct snapshot *opened);
 void print_json_refusal(FILE *to, const char *file, uint32_t number, const char *hint);
 void print_json_error(FILE *to, const char *file, const char *sentence);
-unsigned bytes_not_zero(const struct opened *opened, unsigned page);
+unsigned bytes_not_zero(const struct snapshot *opened, unsigned page);
 
 /* numbers.c: numbers as people write them: hexadecimal with or without 0x, $ or # before it, and decimal. */
 const char *after_hex_mark(const char *text);
@@ -157,18 +157,18 @@ bool take_hex(const char *text, unsigned long most, unsigned long *value);
 bool take_decimal(const char *text, unsigned long most, unsigned long *value);
 
 /* range.c: what a view is asked for: a page, or the addresses from first to last. */
-struct part {
+struct view_range {
     bool is_range;
     unsigned long page, first, last;
 };
 /* Answers NULL, or what is wrong with the text. */
-const char *take_part(const char *text, struct part *part);
+const char *take_view_range(const char *text, struct view_range *range);
 
 /* view.c: a page or a range as hex and text, or as it is; rom as above. */
 /* `place` is what a refusal is told of. */
-enum status print_part(FILE *to, const char *place, const char *file, const struct opened *opened, const struct part *part,
-                       const char *rom);
-enum status put_part(const char *file, const struct opened *opened, const struct part *part, const char *rom);
+enum status print_view_range(FILE *to, const char *place, const char *file, const struct snapshot *opened,
+                             const struct view_range *range, const char *rom);
+enum status put_view_range(const char *file, const struct snapshot *opened, const struct view_range *range, const char *rom);
 /* Bytes that stand at the places from first to last. */
 struct span {
     const uint8_t *bytes;
@@ -186,7 +186,7 @@ struct sought {
     const char *hint;
 };
 enum status take_sought(const char *word, bool text, bool hex, struct sought *sought);
-void print_places(FILE *to, const struct opened *opened, const struct sought *sought);
+void print_places(FILE *to, const struct snapshot *opened, const struct sought *sought);
 
 #define SCREEN_SIZE 6912u
 /* screen.c: the picture on a page, as a PNG of so many dots a pixel, or the screen's own bytes where scale is 0. */
@@ -200,11 +200,11 @@ struct log {
 #define LOG_FILE_MOST (24u + SNAP_LOG_MOST)
 /* Takes up the log that is kept in a file. Where there is none, or where it is damaged or does not belong to the machine and
    memory and `strict` is not asked for, the log stays as it is. */
-enum status load_log(const char *path, const struct opened *opened, bool strict, struct log *log);
+enum status load_log(const char *path, const struct snapshot *opened, bool strict, struct log *log);
 /* Whether these bytes are a log, or none at all, which a log may replace. */
 enum status check_log(const char *name, const uint8_t *file, size_t length);
 /* The file of a log, with a sum of the machine and memory that it belongs to; its length. */
-size_t log_bytes(const struct opened *opened, const struct log *log, uint8_t file[LOG_FILE_MOST]);
+size_t log_bytes(const struct snapshot *opened, const struct log *log, uint8_t file[LOG_FILE_MOST]);
 /* The name of the log that is kept beside a file. */
 enum status log_beside(const char *file, char name[PATH_ROOM]);
 /* A step of the log in words, from old to new, or back. */
@@ -215,11 +215,11 @@ struct edit_words {
     const char *file, *output, *script, *log;
     bool force, new_log;
 };
-struct session {
-    struct opened opened;
+struct editing {
+    struct snapshot opened;
     struct log log;
     const struct edit_words *words;
-    struct known *known;
+    struct known_file *known;
     /* the target of the log, as it was at the start */
     char log_target[PATH_ROOM];
     /* corrections, undos and redos since the last save */
@@ -227,9 +227,9 @@ struct session {
     bool ended;
 };
 /* Both places of saving are checked before anything is corrected. */
-enum status begin_session(struct session *session, const struct edit_words *words);
+enum status begin_session(struct editing *session, const struct edit_words *words);
 /* Saves at the place that the session has, or under another name, with its log beside it. */
-enum status save_session(struct session *session, const char *name, bool force);
+enum status save_session(struct editing *session, const char *name, bool force);
 
 /* words.c: a line taken apart at blanks. A word in double quotes may hold blanks, and \" and \\; a semicolon begins a
    comment. */
@@ -246,12 +246,12 @@ struct line {
 const char *take_words(char *text, struct line *line);
 
 /* commands.c: one line of a session. `place` is where the line stands, for what is said of it. */
-enum status run_line(struct session *session, const char *place, char *text);
+enum status run_line(struct editing *session, const char *place, char *text);
 /* The names of the commands in turn; NULL after the last. */
 const char *command_name(size_t at);
 
 /* prompt.c, completion.c, history.c: a session at a terminal. */
-enum status from_prompt(struct session *session);
+enum status from_prompt(struct editing *session);
 void begin_completion(void);
 void load_history(void);
 void keep_history(void);

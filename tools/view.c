@@ -42,26 +42,26 @@ static void print_rows(FILE *to, const struct span *span)
 }
 
 /* A page's bytes at its first address, or at offsets where it is not paged in. */
-static enum status span_of_page(const char *file, const struct opened *opened, const struct part *part, const char *rom,
-                                struct span *span)
+static enum status span_of_page(const char *file, const struct snapshot *opened, const struct view_range *range,
+                                const char *rom, struct span *span)
 {
     struct machine m = machine_of(opened->header);
     unsigned places[2] = {0};
-    enum status status = page_bytes(file, opened, part->page, rom, &span->bytes);
+    enum status status = page_bytes(file, opened, range->page, rom, &span->bytes);
     if (status == ACCEPTED)
-        page_places(&m, (unsigned)part->page, places);
+        page_places(&m, (unsigned)range->page, places);
     span->first = places[0];
     span->last = span->first + (long)SNAP_PAGE_SIZE - 1;
     return status;
 }
 
 /* A range's bytes, out of the pages that are seen there. */
-static enum status span_of_range(const char *file, const struct opened *opened, const struct part *part, const char *rom,
-                                 struct span *span)
+static enum status span_of_range(const char *file, const struct snapshot *opened, const struct view_range *range,
+                                 const char *rom, struct span *span)
 {
     static uint8_t memory[4 * SNAP_PAGE_SIZE];
     struct machine m = machine_of(opened->header);
-    unsigned long quarter = part->first / SNAP_PAGE_SIZE, last = part->last / SNAP_PAGE_SIZE;
+    unsigned long quarter = range->first / SNAP_PAGE_SIZE, last = range->last / SNAP_PAGE_SIZE;
     for (; quarter <= last; quarter++) {
         const uint8_t *bytes;
         enum status status = page_bytes(file, opened, m.seen[quarter], rom, &bytes);
@@ -69,14 +69,14 @@ static enum status span_of_range(const char *file, const struct opened *opened, 
             return status;
         memcpy(memory + quarter * SNAP_PAGE_SIZE, bytes, SNAP_PAGE_SIZE);
     }
-    *span = (struct span){memory + part->first, (long)part->first, (long)part->last};
+    *span = (struct span){memory + range->first, (long)range->first, (long)range->last};
     return ACCEPTED;
 }
 
-static enum status span_of(const char *file, const struct opened *opened, const struct part *part, const char *rom,
-                           struct span *span)
+static enum status span_of(const char *file, const struct snapshot *opened, const struct view_range *range,
+                           const char *rom, struct span *span)
 {
-    return (part->is_range ? span_of_range : span_of_page)(file, opened, part, rom, span);
+    return (range->is_range ? span_of_range : span_of_page)(file, opened, range, rom, span);
 }
 
 static void print_page_head(FILE *to, const char *file, const struct machine *m, unsigned page)
@@ -89,34 +89,34 @@ static void print_page_head(FILE *to, const char *file, const struct machine *m,
     fputs("\n", to);
 }
 
-static void print_range_head(FILE *to, const char *file, const struct machine *m, const struct part *part)
+static void print_range_head(FILE *to, const char *file, const struct machine *m, const struct view_range *range)
 {
-    fprintf(to, "Addresses %04lX-%04lX of %s", part->first, part->last, shown(file));
-    for (unsigned long quarter = part->first / SNAP_PAGE_SIZE; quarter <= part->last / SNAP_PAGE_SIZE; quarter++)
+    fprintf(to, "Addresses %04lX-%04lX of %s", range->first, range->last, shown(file));
+    for (unsigned long quarter = range->first / SNAP_PAGE_SIZE; quarter <= range->last / SNAP_PAGE_SIZE; quarter++)
         fprintf(to, ", page %u", m->seen[quarter]);
     fputs("\n", to);
 }
 
-enum status print_part(FILE *to, const char *place, const char *file, const struct opened *opened, const struct part *part,
-                       const char *rom)
+enum status print_view_range(FILE *to, const char *place, const char *file, const struct snapshot *opened,
+                             const struct view_range *range, const char *rom)
 {
     struct machine m = machine_of(opened->header);
     struct span span;
-    enum status status = span_of(place, opened, part, rom, &span);
+    enum status status = span_of(place, opened, range, rom, &span);
     if (status != ACCEPTED)
         return status;
-    if (part->is_range)
-        print_range_head(to, file, &m, part);
+    if (range->is_range)
+        print_range_head(to, file, &m, range);
     else
-        print_page_head(to, file, &m, (unsigned)part->page);
+        print_page_head(to, file, &m, (unsigned)range->page);
     print_rows(to, &span);
     return ACCEPTED;
 }
 
-enum status put_part(const char *file, const struct opened *opened, const struct part *part, const char *rom)
+enum status put_view_range(const char *file, const struct snapshot *opened, const struct view_range *range, const char *rom)
 {
     struct span span;
-    enum status status = span_of(file, opened, part, rom, &span);
+    enum status status = span_of(file, opened, range, rom, &span);
     /* a failure is told when standard output is flushed */
     if (status == ACCEPTED)
         fwrite(span.bytes, 1, (size_t)(span.last - span.first + 1), stdout);

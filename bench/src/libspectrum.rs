@@ -21,7 +21,7 @@ mod c {
 }
 
 /// A snapshot in libspectrum's memory.
-pub struct Snapshot(*mut c::Snap);
+pub struct LibspectrumSnapshot(*mut c::Snap);
 
 /// Readies the library; false if it cannot be.
 pub fn start() -> bool {
@@ -30,14 +30,14 @@ pub fn start() -> bool {
 }
 
 /// Reads a file that is followed by two bytes of room, since a block's end is overrun by two.
-pub fn read(file_and_room: &[u8]) -> Option<Snapshot> {
+pub fn read(file_and_room: &[u8]) -> Option<LibspectrumSnapshot> {
     let length = file_and_room.len().checked_sub(2)?;
     // SAFETY: the slice is valid for its length, and two bytes more are read at most.
     let snap = unsafe { c::shim_read(file_and_room.as_ptr(), length) };
-    (!snap.is_null()).then_some(Snapshot(snap))
+    (!snap.is_null()).then_some(LibspectrumSnapshot(snap))
 }
 
-impl Snapshot {
+impl LibspectrumSnapshot {
     /// The bytes of a RAM page from 0 to 7.
     pub fn page(&self, page: usize) -> Option<&[u8]> {
         // SAFETY: the snapshot lives, and a page that is there has 16,384 bytes.
@@ -54,7 +54,7 @@ impl Snapshot {
     }
 }
 
-impl Drop for Snapshot {
+impl Drop for LibspectrumSnapshot {
     fn drop(&mut self) {
         // SAFETY: it came from shim_read and is freed once.
         unsafe { c::shim_free(self.0) }

@@ -4,7 +4,7 @@
 #include <stdlib.h>
 #include <string.h>
 
-struct running request;
+struct running_request request;
 uint64_t bytes_checked;
 
 static void where(void)
@@ -41,7 +41,7 @@ void expect_zero(const char *what, const uint8_t *given, size_t length)
 }
 
 /* After a refused read: no memory, and the blank machine, whose counters are 443F and 3. */
-void expect_refused(const struct slot *slot)
+void expect_refused(const struct server_slot *slot)
 {
     static const uint8_t blank[SNAP_HEADER_SIZE] = {[30] = 54, [55] = 0x3F, [56] = 0x44, [57] = 3};
     expect_zero("area", slot->area, sizeof slot->area);

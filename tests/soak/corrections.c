@@ -15,7 +15,7 @@ static unsigned page_at(const uint8_t *header, uint16_t address)
     return is_128(header) ? header[LAST_OUT] % 8 : 0;
 }
 
-static uint32_t number_of(const struct correction *asked, const uint8_t *header, int is_full)
+static uint32_t number_of(const struct asked_correction *asked, const uint8_t *header, int is_full)
 {
     if (asked->kind == BYTE && asked->place < 0x4000)
         return 23;
@@ -57,7 +57,7 @@ void put_new(struct made *made, const uint8_t *step)
 }
 
 /* The step that an accepted correction writes: tag, length 8, index, offset, old, new, 0. */
-static void make_step(struct correction *asked, const struct made *made)
+static void make_step(struct asked_correction *asked, const struct made *made)
 {
     uint8_t *step = asked->step;
     step[0] = (uint8_t)asked->kind;
@@ -78,10 +78,10 @@ static void make_step(struct correction *asked, const struct made *made)
     step[9] = (uint8_t)(asked->value / 256);
 }
 
-struct correction ask(const struct made *made, int is_full, uint64_t *seed)
+struct asked_correction ask(const struct made *made, int is_full, uint64_t *seed)
 {
     uint64_t word = next(seed);
-    struct correction asked = {.kind = (enum correction_kind)(BYTE + word % 3), .place = (uint16_t)(word >> 16)};
+    struct asked_correction asked = {.kind = (enum correction_kind)(BYTE + word % 3), .place = (uint16_t)(word >> 16)};
     asked.value = (uint16_t)(word >> 32);
     if (asked.kind == PAIR)
         asked.place %= SNAP_PAIRS + 1;

@@ -4,18 +4,18 @@
 
 static struct made made;
 
-static uint32_t read_file(struct slot *slot, const uint8_t *file, size_t length)
+static uint32_t read_file(struct server_slot *slot, const uint8_t *file, size_t length)
 {
     return snap_z80_read(file, length, slot->area, sizeof slot->area, slot->header, sizeof slot->header);
 }
 
-static void expect_made(const struct slot *slot)
+static void expect_made(const struct server_slot *slot)
 {
     expect_bytes("area", slot->area, made.area, sizeof made.area);
     expect_bytes("header", slot->header, made.header, sizeof made.header);
 }
 
-static void read_request(struct slot *slot, uint64_t *seed)
+static void read_request(struct server_slot *slot, uint64_t *seed)
 {
     make(&made, seed);
     expect("read", read_file(slot, made.file, made.length), 0);
@@ -23,7 +23,7 @@ static void read_request(struct slot *slot, uint64_t *seed)
 }
 
 /* A file that is cut in its blocks, or that says that a Multiface is paged in. */
-static void damaged_request(struct slot *slot, uint64_t *seed)
+static void damaged_request(struct server_slot *slot, uint64_t *seed)
 {
     make(&made, seed);
     size_t length = made.length;
@@ -40,7 +40,7 @@ static void damaged_request(struct slot *slot, uint64_t *seed)
 }
 
 /* Writes into an output of this length, every byte of which is looked at. */
-static void write_into(struct slot *slot, size_t room)
+static void write_into(struct server_slot *slot, size_t room)
 {
     uint64_t length = room < made.length ? 0 : made.length;
     uint32_t number = snap_z80_write(slot->header, sizeof slot->header, slot->area, sizeof slot->area, slot->out, room,
@@ -51,20 +51,20 @@ static void write_into(struct slot *slot, size_t room)
     expect_zero("output past the file", slot->out + length, room - length);
 }
 
-static void write_request(struct slot *slot, uint64_t *seed)
+static void write_request(struct server_slot *slot, uint64_t *seed)
 {
     read_request(slot, seed);
     write_into(slot, sizeof slot->out);
 }
 
-static void short_write_request(struct slot *slot, uint64_t *seed)
+static void short_write_request(struct server_slot *slot, uint64_t *seed)
 {
     read_request(slot, seed);
     write_into(slot, made.length - 1 - next(seed) % 100);
 }
 
 /* A view of a page, and all that is seen through it. */
-static void view_page(const struct slot *slot, uint8_t page, uint32_t due)
+static void view_page(const struct server_slot *slot, uint8_t page, uint32_t due)
 {
     static const uint8_t rom[2 * SNAP_PAGE_SIZE];
     uint8_t in_rom = 7;
@@ -80,7 +80,7 @@ static void view_page(const struct slot *slot, uint8_t page, uint32_t due)
         expect_bytes("the page", slot->area + start, made.area + start, length);
 }
 
-static void view_request(struct slot *slot, uint64_t *seed)
+static void view_request(struct server_slot *slot, uint64_t *seed)
 {
     static const uint8_t pages_48[4] = {0, 2, 5, 8};
     read_request(slot, seed);
@@ -90,7 +90,7 @@ static void view_request(struct slot *slot, uint64_t *seed)
 }
 
 /* A page that a 48K machine lacks, or that no machine has. */
-static void absent_view_request(struct slot *slot, uint64_t *seed)
+static void absent_view_request(struct server_slot *slot, uint64_t *seed)
 {
     static const uint8_t pages_48[6] = {1, 3, 4, 6, 7, 9};
     read_request(slot, seed);
@@ -104,7 +104,7 @@ static void absent_view_request(struct slot *slot, uint64_t *seed)
     (slot)->header, sizeof(slot)->header, (slot)->area, sizeof(slot)->area, (slot)->log, sizeof(slot)->log,            \
         &(slot)->standing, &(slot)->total
 
-static uint32_t correct(struct slot *slot, const struct correction *asked)
+static uint32_t correct(struct server_slot *slot, const struct asked_correction *asked)
 {
     if (asked->kind == BYTE)
         return snap_correct_byte(LENT(slot), asked->place, (uint8_t)asked->value);
@@ -114,11 +114,11 @@ static uint32_t correct(struct slot *slot, const struct correction *asked)
 }
 
 /* Corrections until some are refused as the log is full; the steps go to log. How many stand. */
-static unsigned make_corrections(struct slot *slot, uint8_t *log, uint64_t *seed)
+static unsigned make_corrections(struct server_slot *slot, uint8_t *log, uint64_t *seed)
 {
     unsigned standing = 0;
     for (unsigned left = 4 + next(seed) % 16; left > 0; left--) {
-        struct correction asked = ask(&made, standing == LOG_STEPS, seed);
+        struct asked_correction asked = ask(&made, standing == LOG_STEPS, seed);
         expect("correction", correct(slot, &asked), asked.number);
         if (asked.number != 0)
             continue;
@@ -130,7 +130,7 @@ static unsigned make_corrections(struct slot *slot, uint8_t *log, uint64_t *seed
 }
 
 /* Corrections, undos and redos; then the machine is written. */
-static void edit_request(struct slot *slot, uint64_t *seed)
+static void edit_request(struct server_slot *slot, uint64_t *seed)
 {
     uint8_t log[LOG_SIZE] = {0};
     read_request(slot, seed);
@@ -155,7 +155,7 @@ static void edit_request(struct slot *slot, uint64_t *seed)
     write_into(slot, sizeof slot->out);
 }
 
-const struct kind kinds[KINDS] = {
+const struct request_kind kinds[REQUEST_KINDS] = {
     {"read", read_request},
     {"damaged file", damaged_request},
     {"write", write_request},

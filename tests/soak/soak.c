@@ -11,8 +11,8 @@
 
 #define SLOTS 4
 
-static struct slot slots[SLOTS];
-static unsigned long runs[KINDS];
+static struct server_slot slots[SLOTS];
+static unsigned long runs[REQUEST_KINDS];
 
 static double now(void)
 {
@@ -24,7 +24,7 @@ static double now(void)
 static void run_one(void)
 {
     uint64_t seed = request.number * 0x2545F4914F6CDD1Du;
-    unsigned kind = next(&seed) % KINDS;
+    unsigned kind = next(&seed) % REQUEST_KINDS;
     request.kind = kinds[kind].name;
     request.slot = (unsigned)(request.number % SLOTS);
     kinds[kind].run(&slots[request.slot], &seed);
@@ -36,7 +36,7 @@ static void report(double seconds)
 {
     printf("%lu requests in %.1f s, %.0f a second, in %d slots\n", request.number, seconds,
            (double)request.number / seconds, SLOTS);
-    for (unsigned kind = 0; kind < KINDS; kind++)
+    for (unsigned kind = 0; kind < REQUEST_KINDS; kind++)
         printf("    %-14s%lu\n", kinds[kind].name, runs[kind]);
     printf("%llu bytes checked\n", (unsigned long long)bytes_checked);
     printf("no byte of one request was seen by another\n");

@@ -10,7 +10,7 @@
 #define LAST_OUT 35
 
 /* What a server keeps for a request, used again for a later one without clearing. */
-struct slot {
+struct server_slot {
     uint8_t header[SNAP_HEADER_SIZE], area[SNAP_AREA_SIZE], log[LOG_SIZE], out[SNAP_FILE_MOST];
     uint64_t standing, total, length;
 };
@@ -31,39 +31,39 @@ void make_file(struct made *made);
 enum correction_kind { BYTE = 1, PAIR, OUT };
 
 /* A correction as asked, the number that it gives, and its step of the log. */
-struct correction {
+struct asked_correction {
     enum correction_kind kind;
     uint16_t place, value;
     uint32_t number;
     uint8_t step[SNAP_LOG_STEP];
 };
-struct correction ask(const struct made *made, int is_full, uint64_t *seed);
+struct asked_correction ask(const struct made *made, int is_full, uint64_t *seed);
 void put_old(struct made *made, const uint8_t *step);
 void put_new(struct made *made, const uint8_t *step);
 
 /* check.c: a difference is told with the request it stands in, and ends the program. */
-struct running {
+struct running_request {
     unsigned long number;
     const char *kind;
     unsigned slot;
 };
-extern struct running request;
+extern struct running_request request;
 extern uint64_t bytes_checked;
 void expect(const char *call, uint64_t given, uint64_t due);
 void expect_bytes(const char *what, const uint8_t *given, const uint8_t *due, size_t length);
 void expect_zero(const char *what, const uint8_t *given, size_t length);
-void expect_refused(const struct slot *slot);
+void expect_refused(const struct server_slot *slot);
 
 /* stored.c: files read once into a clean area, and again into dirty slots. */
 void store(const char *name);
-void stored_request(struct slot *slot, uint64_t *seed);
+void stored_request(struct server_slot *slot, uint64_t *seed);
 
 /* requests.c */
-#define KINDS 8
-struct kind {
+#define REQUEST_KINDS 8
+struct request_kind {
     const char *name;
-    void (*run)(struct slot *slot, uint64_t *seed);
+    void (*run)(struct server_slot *slot, uint64_t *seed);
 };
-extern const struct kind kinds[KINDS];
+extern const struct request_kind kinds[REQUEST_KINDS];
 
 #endif

@@ -6,7 +6,7 @@
 
 #define MOST 1000
 
-static struct stored {
+static struct stored_file {
     uint8_t *file;
     size_t length;
     uint32_t number;
@@ -21,7 +21,7 @@ static void fail(const char *what, const char *name)
     exit(1);
 }
 
-static uint32_t read_into(const struct stored *stored, uint8_t *area, uint8_t *header)
+static uint32_t read_into(const struct stored_file *stored, uint8_t *area, uint8_t *header)
 {
     return snap_z80_read(stored->file, stored->length, area, SNAP_AREA_SIZE, header, SNAP_HEADER_SIZE);
 }
@@ -38,7 +38,7 @@ void store(const char *name)
     size_t length = fread(bytes, 1, sizeof bytes, from);
     fclose(from);
     size_t skipped = strstr(name, ".z80") == NULL && length >= 2 ? 2 : 0;
-    struct stored *stored = &files[count++];
+    struct stored_file *stored = &files[count++];
     stored->length = length - skipped;
     stored->file = malloc(length + 1);
     stored->area = calloc(1, SNAP_AREA_SIZE);
@@ -48,9 +48,9 @@ void store(const char *name)
     stored->number = read_into(stored, stored->area, stored->header);
 }
 
-void stored_request(struct slot *slot, uint64_t *seed)
+void stored_request(struct server_slot *slot, uint64_t *seed)
 {
-    const struct stored *stored = &files[next(seed) % count];
+    const struct stored_file *stored = &files[next(seed) % count];
     expect("read", read_into(stored, slot->area, slot->header), stored->number);
     if (stored->number != 0)
         expect_refused(slot);

@@ -13,9 +13,9 @@ int is_128(const uint8_t *header)
 }
 
 /* A call with all buffers at their proper lengths, and a log of 9 steps. */
-struct call usual(enum function function, const struct lent *lent)
+struct tried_call usual(enum function function, const struct lent_buffers *lent)
 {
-    struct call call = {.function = function, .header_len = SNAP_HEADER_SIZE, .area_len = SNAP_AREA_SIZE};
+    struct tried_call call = {.function = function, .header_len = SNAP_HEADER_SIZE, .area_len = SNAP_AREA_SIZE};
     call.log_len = 100;
     call.out_len = SNAP_FILE_MOST;
     call.rom_len = is_128(lent->header) ? SNAP_ROM_SIZE_128K : SNAP_ROM_SIZE_48K;
@@ -26,7 +26,7 @@ struct call usual(enum function function, const struct lent *lent)
 #define LOGGED                                                                                                         \
     lent->header, call->header_len, lent->area, call->area_len, lent->log, call->log_len, &lent->standing, &lent->total
 
-uint32_t make_call(struct lent *lent, const struct call *call)
+uint32_t make_call(struct lent_buffers *lent, const struct tried_call *call)
 {
     static const uint8_t rom[SNAP_ROM_SIZE_128K + 1];
     struct figures *figures = &lent->figures;

@@ -6,8 +6,8 @@
 
 #define SHOWN 10u /* differences told in full */
 
-struct lent ordinary;
-static struct lent small;
+struct lent_buffers ordinary;
+static struct lent_buffers small;
 unsigned passed, failed;
 struct trying trying = {"nothing", "no call"};
 static unsigned long differences, expectations;
@@ -46,7 +46,7 @@ void level(void)
     memcpy(&small, &ordinary, sizeof small);
 }
 
-static void tally_call(const char *name, const struct call *call, size_t used)
+static void tally_call(const char *name, const struct tried_call *call, size_t used)
 {
     struct tally *tally = &tallies[call->function];
     tally->calls++;
@@ -70,7 +70,7 @@ static const char *fault_of(uint32_t number, uint32_t again, int is_same)
     return is_same ? NULL : "leaves other bytes on the small stack than on the ordinary one";
 }
 
-void try_call(const char *name, const struct call *call, uint32_t due)
+void try_call(const char *name, const struct tried_call *call, uint32_t due)
 {
     char text[80];
     const char *function = function_names[call->function];
@@ -93,7 +93,7 @@ void try_call(const char *name, const struct call *call, uint32_t due)
         level();
 }
 
-void expect(const char *name, const char *what, int holds)
+void expect_holds(const char *name, const char *what, int holds)
 {
     expectations++;
     if (!holds)
@@ -136,7 +136,7 @@ static void report_function(enum function function)
 
 void report_calls(void)
 {
-    struct call nothing = {.function = FUNCTIONS};
+    struct tried_call nothing = {.function = FUNCTIONS};
     uint32_t number = 0;
     unsigned long calls = 0;
     size_t most = 0;

@@ -2,14 +2,14 @@
 #include "stack.h"
 #include <string.h>
 
-static size_t capacity(const struct call *call)
+static size_t capacity(const struct tried_call *call)
 {
     size_t steps = call->log_len / SNAP_LOG_STEP;
     return steps < SNAP_LOG_STEPS ? steps : SNAP_LOG_STEPS;
 }
 
 /* The number that a correction gives where header, area and counts are good. */
-static uint32_t due_of(const struct call *call)
+static uint32_t due_of_correction(const struct tried_call *call)
 {
     if (call->function == BYTE && call->place < 0x4000)
         return SNAP_ROM_ADDRESS;
@@ -22,35 +22,35 @@ static uint32_t due_of(const struct call *call)
     return ordinary.standing == capacity(call) ? SNAP_LOG_FULL : SNAP_ACCEPTED;
 }
 
-static void correct(const char *name, struct call call, enum function function, unsigned place, unsigned value)
+static void try_correction(const char *name, struct tried_call call, enum function function, unsigned place, unsigned value)
 {
     uint64_t standing = ordinary.standing;
     call.function = function;
     call.place = (uint16_t)place;
     call.value = (uint16_t)value;
-    uint32_t due = due_of(&call);
+    uint32_t due = due_of_correction(&call);
     try_call(name, &call, due);
-    expect(name, "not as many corrections stand as must", ordinary.standing == standing + (due == 0));
+    expect_holds(name, "not as many corrections stand as must", ordinary.standing == standing + (due == 0));
 }
 
 /* Bytes at the ends of each page and in ROM, every pair and more, and OUTs up to one that locks paging. */
-static void fill(const char *name, struct call call)
+static void fill(const char *name, struct tried_call call)
 {
     static const uint16_t addresses[10] = {0, 0x3FFF, 0x4000, 0x7FFF, 0x8000, 0xBFFF, 0xC000, 0xC010, 0xFFFE, 0xFFFF};
-    correct(name, call, OUT, 0, 5);
-    correct(name, call, BYTE, 0xC010, 0x7E);
-    correct(name, call, OUT, 0, 0);
+    try_correction(name, call, OUT, 0, 5);
+    try_correction(name, call, BYTE, 0xC010, 0x7E);
+    try_correction(name, call, OUT, 0, 0);
     for (unsigned at = 0; at < 10; at++)
-        correct(name, call, BYTE, addresses[at], at * 27);
+        try_correction(name, call, BYTE, addresses[at], at * 27);
     for (unsigned pair = 0; pair <= SNAP_PAIRS; pair++)
-        correct(name, call, PAIR, pair, pair * 5021);
-    correct(name, call, PAIR, 255, 0);
-    correct(name, call, OUT, 0, 0x27);
-    correct(name, call, OUT, 0, 0);
+        try_correction(name, call, PAIR, pair, pair * 5021);
+    try_correction(name, call, PAIR, 255, 0);
+    try_correction(name, call, OUT, 0, 0x27);
+    try_correction(name, call, OUT, 0, 0);
 }
 
 /* Undo or redo until nothing is left to move. */
-static void move_all(const char *name, struct call call, enum function function)
+static void move_all(const char *name, struct tried_call call, enum function function)
 {
     uint64_t left = function == UNDO ? ordinary.standing : ordinary.total - ordinary.standing;
     call.function = function;
@@ -60,7 +60,7 @@ static void move_all(const char *name, struct call call, enum function function)
 }
 
 /* Each byte of a step changed in several ways, and moved over; a tag, length or last byte that no step has is 28. */
-static void damage(const char *name, struct call call, enum function function)
+static void damage(const char *name, struct tried_call call, enum function function)
 {
     static const uint8_t masks[4] = {1, 3, 0x40, 0xFF};
     uint64_t standing = ordinary.standing;
@@ -68,7 +68,7 @@ static void damage(const char *name, struct call call, enum function function)
     call.function = function;
     for (unsigned at = 0; at < SNAP_LOG_STEP; at++)
         for (unsigned mask = 0; mask < 4; mask++) {
-            static struct lent kept;
+            static struct lent_buffers kept;
             int is_bad = at == 1 || at == 2 || at == 10 || (at == 0 && mask >= 2);
             memcpy(&kept, &ordinary, sizeof kept);
             step[at] ^= masks[mask];
@@ -80,7 +80,7 @@ static void damage(const char *name, struct call call, enum function function)
 }
 
 /* Counts that no log of this length has. */
-static void try_counts(const char *name, struct call call)
+static void try_counts(const char *name, struct tried_call call)
 {
     const uint64_t standing = ordinary.standing, total = ordinary.total;
     const uint64_t wrong[4][2] = {{1, 0}, {0, capacity(&call) + 1}, {UINT64_MAX, UINT64_MAX}, {total + 1, total}};
@@ -96,7 +96,7 @@ static void try_counts(const char *name, struct call call)
 }
 
 /* What every call on a log refuses first. */
-static void try_refusals(const char *name, struct call call)
+static void try_refusals(const char *name, struct tried_call call)
 {
     for (unsigned function = BYTE; function <= REDO; function++) {
         call.function = (enum function)function;
@@ -109,7 +109,7 @@ static void try_refusals(const char *name, struct call call)
 void try_log(const char *name, size_t log_len)
 {
     static uint8_t header[SNAP_HEADER_SIZE], area[SNAP_AREA_SIZE];
-    struct call call = usual(START, &ordinary);
+    struct tried_call call = usual(START, &ordinary);
     call.log_len = log_len;
     memcpy(header, ordinary.header, sizeof header);
     memcpy(area, ordinary.area, sizeof area);
@@ -118,8 +118,8 @@ void try_log(const char *name, size_t log_len)
     move_all(name, call, REDO);
     fill(name, call);
     while (log_len == SNAP_LOG_MOST && ordinary.standing < SNAP_LOG_STEPS)
-        correct(name, call, BYTE, 0x4000 + (unsigned)ordinary.standing * 11 % 0xC000, (unsigned)ordinary.standing);
-    correct(name, call, PAIR, SNAP_PC, 0x8000);
+        try_correction(name, call, BYTE, 0x4000 + (unsigned)ordinary.standing * 11 % 0xC000, (unsigned)ordinary.standing);
+    try_correction(name, call, PAIR, SNAP_PC, 0x8000);
     if (ordinary.standing > 0) {
         damage(name, call, UNDO);
         move_all(name, call, UNDO);
@@ -128,6 +128,6 @@ void try_log(const char *name, size_t log_len)
     }
     try_refusals(name, call);
     move_all(name, call, UNDO);
-    expect(name, "undone, the header is another", memcmp(header, ordinary.header, sizeof header) == 0);
-    expect(name, "undone, the area is another", memcmp(area, ordinary.area, sizeof area) == 0);
+    expect_holds(name, "undone, the header is another", memcmp(header, ordinary.header, sizeof header) == 0);
+    expect_holds(name, "undone, the area is another", memcmp(area, ordinary.area, sizeof area) == 0);
 }

@@ -31,9 +31,9 @@ static const struct file *keep(const char *name, const uint8_t *bytes, size_t le
     return file;
 }
 
-static struct call read_call(const struct file *file)
+static struct tried_call read_call(const struct file *file)
 {
-    struct call call = usual(READ, &ordinary);
+    struct tried_call call = usual(READ, &ordinary);
     call.file = file->bytes;
     call.file_len = file->length;
     return call;
@@ -45,7 +45,7 @@ static void try_read_lengths(const struct file *file)
     static const size_t areas[4] = {0, 1, SNAP_AREA_SIZE - 1, SNAP_AREA_SIZE + 1};
     static const size_t headers[4] = {0, 30, SNAP_HEADER_SIZE - 1, SNAP_HEADER_SIZE + 1};
     for (unsigned at = 0; at < 4; at++) {
-        struct call call = read_call(file);
+        struct tried_call call = read_call(file);
         call.area_len = areas[at];
         try_call(file->name, &call, SNAP_AREA_LENGTH);
         call.header_len = headers[at];
@@ -59,7 +59,7 @@ static void try_read_lengths(const struct file *file)
 static void try_cuts(const struct file *file)
 {
     size_t step = file->length / 40 + 1;
-    struct call call = read_call(file);
+    struct tried_call call = read_call(file);
     for (call.file_len = 0; call.file_len < 90; call.file_len++)
         try_call(file->name, &call, call.file_len < 30 ? SNAP_FILE_SHORT : REFUSED);
     for (; call.file_len < file->length; call.file_len += step)
@@ -73,7 +73,7 @@ void try_file(const char *name, const uint8_t *bytes, size_t length, uint32_t du
 {
     static const uint8_t zeros[SNAP_AREA_SIZE];
     const struct file *file = keep(name, bytes, length);
-    struct call call = read_call(file);
+    struct tried_call call = read_call(file);
     try_read_lengths(file);
     if (due == 0)
         try_cuts(file);
@@ -81,13 +81,13 @@ void try_file(const char *name, const uint8_t *bytes, size_t length, uint32_t du
     if (due != 0)
         area = zeros;
     if (area != NULL)
-        expect(file->name, "the area is not what it must be", memcmp(ordinary.area, area, SNAP_AREA_SIZE) == 0);
+        expect_holds(file->name, "the area is not what it must be", memcmp(ordinary.area, area, SNAP_AREA_SIZE) == 0);
     if (due == 0)
         use_machine(file->name);
 }
 
 /* The number that reading a stored file gives: the table's, and 0 for a sample. */
-static uint32_t due_of(const char *path)
+static uint32_t due_of_file(const char *path)
 {
     char name[100], sum[20];
     unsigned number;
@@ -114,5 +114,5 @@ void try_stored(const char *path)
         stop("cannot be opened", path);
     size_t length = fread(bytes, 1, sizeof bytes, from);
     fclose(from);
-    try_file(path, bytes, length, due_of(path), NULL);
+    try_file(path, bytes, length, due_of_file(path), NULL);
 }

@@ -10,11 +10,11 @@ static int owns(unsigned page)
 }
 
 /* 20: header buffers of other lengths, and a header that the writer does not make. */
-void try_headers(const char *name, struct call call)
+void try_headers(const char *name, struct tried_call call)
 {
     static const size_t lengths[3] = {0, SNAP_HEADER_SIZE - 1, SNAP_HEADER_SIZE + 1};
     for (unsigned at = 0; at < 3; at++) {
-        struct call other = call;
+        struct tried_call other = call;
         other.header_len = lengths[at];
         try_call(name, &other, SNAP_INVALID_MACHINE);
     }
@@ -29,7 +29,7 @@ void try_headers(const char *name, struct call call)
 }
 
 /* The same, and 21: areas of other lengths. */
-void try_lengths(const char *name, struct call call)
+void try_lengths(const char *name, struct tried_call call)
 {
     static const size_t areas[3] = {0, SNAP_AREA_SIZE - 1, SNAP_AREA_SIZE + 1};
     try_headers(name, call);
@@ -43,7 +43,7 @@ void try_lengths(const char *name, struct call call)
 static void try_writes(const char *name)
 {
     static uint8_t file[SNAP_FILE_MOST], header[SNAP_HEADER_SIZE], area[SNAP_AREA_SIZE];
-    struct call call = usual(WRITE, &ordinary);
+    struct tried_call call = usual(WRITE, &ordinary);
     try_call(name, &call, 0);
     size_t length = (size_t)ordinary.length;
     const size_t rooms[7] = {0, 1, SNAP_HEADER_SIZE, SNAP_HEADER_SIZE + 100, length / 2, length - 1, length};
@@ -54,26 +54,26 @@ static void try_writes(const char *name)
         call.out_len = rooms[at];
         try_call(name, &call, rooms[at] < length ? SNAP_OUTPUT_SHORT : 0);
     }
-    expect(name, "the file is another in an output of its length", memcmp(file, ordinary.out, length) == 0);
+    expect_holds(name, "the file is another in an output of its length", memcmp(file, ordinary.out, length) == 0);
     try_lengths(name, usual(WRITE, &ordinary));
     call = usual(READ, &ordinary);
     call.file = file;
     call.file_len = length;
     try_call(name, &call, 0);
-    expect(name, "the header does not read back", memcmp(header, ordinary.header, sizeof header) == 0);
-    expect(name, "the area does not read back", memcmp(area, ordinary.area, sizeof area) == 0);
+    expect_holds(name, "the header does not read back", memcmp(header, ordinary.header, sizeof header) == 0);
+    expect_holds(name, "the area does not read back", memcmp(area, ordinary.area, sizeof area) == 0);
 }
 
 /* Every page, and ROMs of other lengths. */
 static void try_views(const char *name)
 {
     static const size_t roms[5] = {0, SNAP_ROM_SIZE_48K - 1, SNAP_ROM_SIZE_48K, SNAP_ROM_SIZE_128K, SNAP_ROM_SIZE_128K + 1};
-    struct call call = usual(VIEW, &ordinary);
+    struct tried_call call = usual(VIEW, &ordinary);
     const size_t rom_len = call.rom_len;
     for (unsigned page = 0; page < 256; page++) {
         call.place = (uint16_t)page;
         try_call(name, &call, owns(page) ? 0 : SNAP_PAGE_NOT_OWNED);
-        expect(name, "the page lies elsewhere", ordinary.start == (owns(page) ? page % 8 * SNAP_PAGE_SIZE : 0));
+        expect_holds(name, "the page lies elsewhere", ordinary.start == (owns(page) ? page % 8 * SNAP_PAGE_SIZE : 0));
     }
     call.place = 5;
     for (unsigned at = 0; at < 5; at++) {

@@ -8,7 +8,7 @@
 #define SAMROM_V1 0x10
 
 /* The file that is made: accepted as a 48K (0) or a 128K (1) machine, or refused. */
-static void accepted(const char *name, int is_128k)
+static void read_accepted(const char *name, int is_128k)
 {
     static uint8_t due[SNAP_AREA_SIZE];
     memcpy(due, memory, sizeof due);
@@ -18,7 +18,7 @@ static void accepted(const char *name, int is_128k)
     try_file(name, made.bytes, made.length, 0, due);
 }
 
-static void refused(const char *name, uint32_t due)
+static void read_refused(const char *name, uint32_t due)
 {
     try_file(name, made.bytes, made.length, due, NULL);
 }
@@ -43,17 +43,17 @@ static void v1_good(void)
     put_header(1, PACKED_V1);
     put_stream(PACKED, 0);
     put_marker();
-    accepted("v1 packed", 0);
+    read_accepted("v1 packed", 0);
     put_header(1, PACKED_V1);
     put_stream(LONGEST, 0);
     put_marker();
-    accepted("v1 packed as long as can be", 0);
+    read_accepted("v1 packed as long as can be", 0);
     put_header(1, 0);
     put_stream(PLAIN, 0);
-    accepted("v1 plain", 0);
+    read_accepted("v1 plain", 0);
     put_header(1, 255);
     put_stream(PLAIN, 0);
-    accepted("v1 plain, byte 12 is 255", 0);
+    read_accepted("v1 plain, byte 12 is 255", 0);
 }
 
 /* A v1 file whose packed stream lacks its last bytes, and then other ones. */
@@ -62,7 +62,7 @@ static void v1_ends(const char *name, size_t less, const uint8_t *end, size_t co
     put_header(1, PACKED_V1);
     put_stream(PACKED, less);
     put_bytes(end, count);
-    refused(name, due);
+    read_refused(name, due);
 }
 
 static void v1_bad(void)
@@ -83,18 +83,18 @@ static void v1_bad(void)
     for (unsigned left = 20000; left > 0; left--)
         put_run(255, ED);
     put_marker();
-    refused("v1 of five million bytes", SNAP_UNPACKED_LENGTH);
+    read_refused("v1 of five million bytes", SNAP_UNPACKED_LENGTH);
     put_header(1, 0);
     put_stream(PLAIN, 1);
-    refused("v1 plain, one byte less", SNAP_UNPACKED_LENGTH);
+    read_refused("v1 plain, one byte less", SNAP_UNPACKED_LENGTH);
     put_byte(0);
     put_byte(0);
-    refused("v1 plain, one byte more", SNAP_UNPACKED_LENGTH);
+    read_refused("v1 plain, one byte more", SNAP_UNPACKED_LENGTH);
     put_header(1, SAMROM_V1);
-    refused("v1 with SamRom", SNAP_MODE_NOT_CARRIED);
+    read_refused("v1 with SamRom", SNAP_MODE_NOT_CARRIED);
     put_header(1, PACKED_V1);
     made.bytes[29] |= 3;
-    refused("v1, interrupt mode 3", SNAP_INTERRUPT_MODE);
+    read_refused("v1, interrupt mode 3", SNAP_INTERRUPT_MODE);
 }
 
 /* Every mode of v2 and v3, or one of each model, stored in three ways. */
@@ -111,9 +111,9 @@ static void later_good(unsigned version, int is_each)
             put_header(version, (uint8_t)mode);
             put_blocks(version, (uint8_t)mode, (enum storing)storing);
             if (is_carried)
-                accepted(name, is_128_mode(version, (uint8_t)mode));
+                read_accepted(name, is_128_mode(version, (uint8_t)mode));
             else if (storing == PACKED)
-                refused(name, SNAP_MODE_NOT_CARRIED);
+                read_refused(name, SNAP_MODE_NOT_CARRIED);
         }
     }
 }
@@ -126,7 +126,7 @@ static void header_bad(unsigned version, unsigned at, uint8_t value, uint32_t du
     put_header(version, version == 2 ? 3 : 4);
     put_blocks(version, made.bytes[34], PACKED);
     made.bytes[at] = value;
-    refused(name, due);
+    read_refused(name, due);
 }
 
 static void headers_bad(void)
@@ -150,7 +150,7 @@ static void blocks_end(const char *name, int is_whole, const uint8_t *end, size_
     if (!is_whole)
         made.length -= SNAP_PAGE_SIZE + 3;
     put_bytes(end, count);
-    refused(name, due);
+    read_refused(name, due);
 }
 
 static void blocks_bad(void)
@@ -172,7 +172,7 @@ static void blocks_bad(void)
     for (unsigned left = 1000; left > 0; left--)
         put_run(255, 7);
     memcpy(made.bytes + SNAP_HEADER_SIZE, "\xA0\x0F\x03", 3);
-    refused("a block of 255,000 bytes", SNAP_UNPACKED_LENGTH);
+    read_refused("a block of 255,000 bytes", SNAP_UNPACKED_LENGTH);
 }
 
 void try_made(void)

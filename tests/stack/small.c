@@ -18,8 +18,8 @@ static sigjmp_buf rescue;
 static void (*fault_elsewhere)(const uint8_t *address);
 
 static struct {
-    struct lent *lent;
-    const struct call *call;
+    struct lent_buffers *lent;
+    const struct tried_call *call;
     uint32_t number;
     volatile sig_atomic_t is_running;
 } task;
@@ -71,7 +71,7 @@ static void run_task(void)
 }
 
 /* How many bytes from the top of the stack down the call has used, the few of make_call with them. */
-size_t call_on_small(struct lent *lent, const struct call *call, uint32_t *number)
+size_t call_on_small(struct lent_buffers *lent, const struct tried_call *call, uint32_t *number)
 {
     size_t clean = 0;
     memcpy(stack, paint, STACK_SIZE);

@@ -16,7 +16,7 @@ enum function { READ, WRITE, VIEW, START, BYTE, PAIR, OUT, UNDO, REDO, VERSION, 
 extern const char *const function_names[FUNCTIONS];
 
 /* The buffers lent to calls. Each has room for a length that is one too long. */
-struct lent {
+struct lent_buffers {
     uint8_t header[SNAP_HEADER_SIZE + 1], area[SNAP_AREA_SIZE + 1], log[SNAP_LOG_MOST + SNAP_LOG_STEP];
     uint8_t out[SNAP_FILE_MOST + 1];
     struct figures {
@@ -27,7 +27,7 @@ struct lent {
 };
 
 /* A call: its function, the file for a read, how much of each buffer is lent, and what is asked. */
-struct call {
+struct tried_call {
     enum function function;
     const uint8_t *file;
     size_t file_len, header_len, area_len, log_len, out_len, rom_len;
@@ -36,28 +36,28 @@ struct call {
 
 /* calls.c */
 int is_128(const uint8_t *header);
-struct call usual(enum function function, const struct lent *lent);
-uint32_t make_call(struct lent *lent, const struct call *call);
+struct tried_call usual(enum function function, const struct lent_buffers *lent);
+uint32_t make_call(struct lent_buffers *lent, const struct tried_call *call);
 
 /* small.c: a call on a stack of STACK_SIZE bytes; DIED where it ran past its end. */
 #define DIED SIZE_MAX
 uint8_t *new_stack(size_t size);
 void catch_faults(void (*elsewhere)(const uint8_t *address));
 void own_signal_stack(uint8_t *memory, size_t size);
-size_t call_on_small(struct lent *lent, const struct call *call, uint32_t *number);
+size_t call_on_small(struct lent_buffers *lent, const struct tried_call *call, uint32_t *number);
 
 /* check.c: every call is made twice, on the ordinary stack with `ordinary` and on a small one with `small`. */
 #define ANY 1000u     /* whatever number the ordinary stack gives */
 #define REFUSED 1001u /* any number but 0 */
-extern struct lent ordinary;
+extern struct lent_buffers ordinary;
 extern unsigned passed, failed;
 /* The call that is tried, and over which file. */
 extern struct trying {
     const char *name, *function;
 } trying;
 void level(void);
-void try_call(const char *name, const struct call *call, uint32_t due);
-void expect(const char *name, const char *what, int holds);
+void try_call(const char *name, const struct tried_call *call, uint32_t due);
+void expect_holds(const char *name, const char *what, int holds);
 void close_check(int holds, const char *format, ...);
 void report_calls(void);
 
@@ -79,8 +79,8 @@ void try_made(void);
 
 /* machines.c, looks.c, corrections.c: all that is done with a machine once it is read. */
 void use_machine(const char *name);
-void try_headers(const char *name, struct call call);
-void try_lengths(const char *name, struct call call);
+void try_headers(const char *name, struct tried_call call);
+void try_lengths(const char *name, struct tried_call call);
 void try_looks(const char *name);
 void try_log(const char *name, size_t log_len);
 

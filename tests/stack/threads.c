@@ -15,7 +15,7 @@
 #define CALLS 100000u
 
 static struct worker {
-    struct lent lent;
+    struct lent_buffers lent;
     unsigned number;
     uint64_t sums[CALLS];
     unsigned long wrong, calls[FUNCTIONS];
@@ -39,14 +39,14 @@ static uint64_t add(uint64_t sum, const void *from, size_t length)
 }
 
 /* Which call comes next: reads and writes are rarer, since they are longer. */
-static struct call pick(const struct lent *lent, uint64_t *seed)
+static struct tried_call pick(const struct lent_buffers *lent, uint64_t *seed)
 {
     static const enum function often[19] = {BYTE, BYTE, BYTE, PAIR, PAIR, PAIR,    OUT,   OUT,        UNDO, UNDO,
                                             UNDO, REDO, REDO, VIEW, VIEW, VERSION, MODEL, PAIR_VALUE, PLACE};
     static const enum function seldom[4] = {START, START, READ, WRITE};
     uint64_t word = next(seed);
     enum function function = word % 20 < 19 ? often[word % 20] : seldom[word / 20 % 4];
-    struct call call = usual(function, lent);
+    struct tried_call call = usual(function, lent);
     const struct file *file = &files[(word >> 8) % file_count];
     call.file = file->bytes;
     call.file_len = file->length;
@@ -58,7 +58,7 @@ static struct call pick(const struct lent *lent, uint64_t *seed)
 }
 
 /* What a call left. The area and the output are long, and looked at after reads and writes and at every 64th call. */
-static uint64_t sum_of(const struct lent *lent, const struct call *call, uint32_t number, unsigned at)
+static uint64_t sum_of(const struct lent_buffers *lent, const struct tried_call *call, uint32_t number, unsigned at)
 {
     uint64_t sum = add(number, lent->header, sizeof lent->header);
     sum = add(sum, lent->log, call->log_len);
@@ -80,7 +80,7 @@ static void run_calls(struct worker *worker, int is_kept)
     uint64_t seed = worker->number;
     memset(&worker->lent, 0, sizeof worker->lent);
     for (unsigned at = 0; at < CALLS; at++) {
-        struct call call = pick(&worker->lent, &seed);
+        struct tried_call call = pick(&worker->lent, &seed);
         worker->running = call.function;
         uint64_t sum = sum_of(&worker->lent, &call, make_call(&worker->lent, &call), at);
         if (is_kept)
@@ -101,7 +101,7 @@ static void *work(void *given)
 }
 
 /* A thread with 16,384 bytes of stack in all, or the least that this machine takes for a thread; how many they are. */
-static size_t begin(struct worker *worker, pthread_t *thread)
+static size_t start_worker(struct worker *worker, pthread_t *thread)
 {
     for (size_t size = STACK_SIZE; size < GUARD_SIZE; size += 4096) {
         pthread_attr_t attributes;
@@ -149,7 +149,7 @@ void try_threads(void)
     trying = (struct trying){"in four threads", "any call"};
     pthread_barrier_init(&start, NULL, THREADS);
     for (unsigned at = 0; at < THREADS; at++)
-        size = begin(&workers[at], &threads[at]);
+        size = start_worker(&workers[at], &threads[at]);
     for (unsigned at = 0; at < THREADS; at++)
         pthread_join(threads[at], NULL);
     for (unsigned at = 0; at < THREADS; at++) {

@@ -10,7 +10,7 @@
 static uint8_t file[SNAP_READ_MOST], area[SNAP_AREA_SIZE], header[SNAP_HEADER_SIZE], seen[240][320][3];
 static uint8_t dots[8 * 240 * 8 * 320][3];
 
-static int wrong(const char *what, unsigned x, unsigned y)
+static int wrong_pixel(const char *what, unsigned x, unsigned y)
 {
     printf("%s at %u, %u\n", what, x, y);
     return 1;
@@ -33,7 +33,7 @@ static int screen_differs(const uint8_t *screen)
             unsigned x = column * 8 + 7 - bit;
             unsigned colour = screen[offset] >> bit & 1 ? attribute & 7 : attribute >> 3 & 7;
             if (!is_colour(seen[24 + y][32 + x], colour, attribute & 64))
-                return wrong("pixel", x, y);
+                return wrong_pixel("pixel", x, y);
         }
     }
     return 0;
@@ -45,7 +45,7 @@ static int border_differs(unsigned colour)
         for (unsigned x = 0; x < 320; x++) {
             int inside = y >= 24 && y < 216 && x >= 32 && x < 288;
             if (!inside && !is_colour(seen[y][x], colour, 0))
-                return wrong("border", x, y);
+                return wrong_pixel("border", x, y);
         }
     return 0;
 }
@@ -59,7 +59,7 @@ static int dots_differ(unsigned scale)
             if (x % scale == 0 && y % scale == 0)
                 memcpy(seen[y / scale][x / scale], dot, 3);
             else if (memcmp(seen[y / scale][x / scale], dot, 3) != 0)
-                return wrong("dot", x, y);
+                return wrong_pixel("dot", x, y);
         }
     return 0;
 }
@@ -68,22 +68,22 @@ int main(int argc, char **argv)
 {
     png_image image = {.version = PNG_IMAGE_VERSION};
     if (argc < 3 || !png_image_begin_read_from_file(&image, argv[1]))
-        return wrong("no PNG", 0, 0);
+        return wrong_pixel("no PNG", 0, 0);
     unsigned scale = argc > 3 ? (unsigned)atoi(argv[3]) : 1;
     if (scale > 8 || image.width != 320 * scale || image.height != 240 * scale)
-        return wrong("another size", image.width, image.height);
+        return wrong_pixel("another size", image.width, image.height);
     image.format = PNG_FORMAT_RGB;
     if (!png_image_finish_read(&image, NULL, dots, 0, NULL))
-        return wrong("a damaged PNG", 0, 0);
+        return wrong_pixel("a damaged PNG", 0, 0);
     if (dots_differ(scale))
         return 1;
     FILE *from = fopen(argv[2], "rb");
     if (from == NULL)
-        return wrong("no file", 0, 0);
+        return wrong_pixel("no file", 0, 0);
     size_t length = fread(file, 1, sizeof file, from);
     fclose(from);
     if (snap_z80_read(file, length, area, sizeof area, header, sizeof header) != SNAP_ACCEPTED)
-        return wrong("a refused file", 0, 0);
+        return wrong_pixel("a refused file", 0, 0);
     unsigned page = argc > 4 ? (unsigned)atoi(argv[4]) : header[34] >= 4 && (header[35] & 8) ? 7 : 5;
     return screen_differs(area + page * SNAP_PAGE_SIZE) || border_differs(header[12] >> 1 & 7);
 }

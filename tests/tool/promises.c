@@ -16,7 +16,7 @@ static struct bench {
 #define LENT(b) \
     (b).header, sizeof (b).header, (b).area, sizeof (b).area, (b).log, sizeof (b).log, &(b).standing, &(b).total
 
-static unsigned word(const uint8_t *bytes)
+static unsigned word_at(const uint8_t *bytes)
 {
     return bytes[0] | (unsigned)bytes[1] << 8;
 }
@@ -24,9 +24,9 @@ static unsigned word(const uint8_t *bytes)
 static void holds(unsigned step, unsigned tag, unsigned index, unsigned offset, unsigned old, unsigned new)
 {
     const uint8_t *bytes = bench.log + step * SNAP_LOG_STEP;
-    assert(bytes[SNAP_STEP_TAG] == tag && word(bytes + SNAP_STEP_LENGTH) == 8 && bytes[SNAP_STEP_INDEX] == index);
-    assert(word(bytes + SNAP_STEP_OFFSET) == offset && word(bytes + SNAP_STEP_OLD) == old);
-    assert(word(bytes + SNAP_STEP_NEW) == new && bytes[SNAP_STEP_END] == 0);
+    assert(bytes[SNAP_STEP_TAG] == tag && word_at(bytes + SNAP_STEP_LENGTH) == 8 && bytes[SNAP_STEP_INDEX] == index);
+    assert(word_at(bytes + SNAP_STEP_OFFSET) == offset && word_at(bytes + SNAP_STEP_OLD) == old);
+    assert(word_at(bytes + SNAP_STEP_NEW) == new && bytes[SNAP_STEP_END] == 0);
 }
 
 static void steps_by_name(void)
@@ -38,7 +38,7 @@ static void steps_by_name(void)
     holds(0, SNAP_STEP_OUT, 0, 0, start.header[SNAP_AT_OUT_7FFD], bench.header[SNAP_AT_OUT_7FFD]);
     holds(1, SNAP_STEP_BYTE, 5, 0x110, 0, 0x7E);
     holds(2, SNAP_STEP_PAIR, SNAP_DE_ALT, 0, 0, 0x1234);
-    assert(word(bench.header + SNAP_AT_DE_ALT) == 0x1234 && bench.header[SNAP_AT_OUT_7FFD] == SNAP_7FFD_SCREEN + 5);
+    assert(word_at(bench.header + SNAP_AT_DE_ALT) == 0x1234 && bench.header[SNAP_AT_OUT_7FFD] == SNAP_7FFD_SCREEN + 5);
 }
 
 /* Handed back later: whole, with numbers that lead out of it or are wrong inside it, damaged, and to another machine. */

@@ -9,7 +9,7 @@ mod journal;
 
 use bench::timing::times_of;
 use bench::verdict::at_most;
-use journal::{contender, fill, Bench, CALLS, KINDS, STEPS};
+use journal::{contender, fill, FullLog, CALLS, STEPS, TIMED_CALLS};
 use reference::memory::{Rng, MEMORY};
 use std::time::Duration;
 
@@ -33,9 +33,9 @@ fn main() {
         "", "step 1", "step 4,096", "ratio", "area fill", "to fill"
     );
     let (mut steps, mut areas): (f64, f64) = (0.0, 0.0);
-    for (name, kind) in KINDS {
-        Bench::check(kind, 1);
-        Bench::check(kind, last);
+    for (name, kind) in TIMED_CALLS {
+        FullLog::check(kind, 1);
+        FullLog::check(kind, last);
         let mut contenders = [contender(kind, 1), contender(kind, last), fill()];
         let times = times_of(ROUNDS, LEAST, &mut contenders, rng);
         let (first, last) = (per_call(times.median(0)), per_call(times.median(1)));

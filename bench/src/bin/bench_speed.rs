@@ -17,7 +17,7 @@ use bench::timing::ROUNDS;
 use bench::verdict::{at_least, at_most};
 use reference::memory::Rng;
 use speed::Who::{Library, Libspectrum, Ordinary, Wordwise};
-use speed::{packing, plot, table, z80, Measured};
+use speed::{packing, plot, table, z80, DirectionTimes};
 
 /// The library's time over that of ordinary Rust.
 const A10_TARGET: f64 = 1.50;
@@ -33,7 +33,7 @@ const WRITE_TARGET: f64 = 1.00;
 const READ_LEAD: f64 = 5.0;
 const WRITE_LEAD: f64 = 3.0;
 
-fn judge_packing([unpack, pack]: &[Measured; 2]) {
+fn judge_packing([unpack, pack]: &[DirectionTimes; 2]) {
     let what =
         "A10, unpacking the packed blocks of ten 128K files from libspectrum, to ordinary Rust";
     at_most(what, known(unpack.ratio(Library, Ordinary)), A10_TARGET);
@@ -47,7 +47,7 @@ fn judge_packing([unpack, pack]: &[Measured; 2]) {
     }
 }
 
-fn judge_z80([read, write]: &[Measured; 2]) {
+fn judge_z80([read, write]: &[DirectionTimes; 2]) {
     for (way, most, lead) in [
         (read, READ_TARGET, READ_LEAD),
         (write, WRITE_TARGET, WRITE_LEAD),

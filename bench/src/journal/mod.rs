@@ -1,6 +1,6 @@
 //! The parts of the benchmark of the journal: a full log, and the calls at one of its steps.
 
-use crate::ffi_snapshot::{self as ffi, Session};
+use crate::ffi_snapshot::{self as ffi, LogBuffers};
 use bench::timing::Contender;
 use reference::journal::{Step, STEP};
 use reference::machine::{header, Machine, Model};
@@ -22,7 +22,7 @@ const PLACE: usize = PAGE_AT as usize * PAGE + OFFSET as usize;
 const ADDRESS: u16 = 0xC000 + OFFSET;
 
 #[derive(Clone, Copy)]
-pub enum Kind {
+pub enum TimedCall {
     Byte,
     Pair,
     Out,
@@ -30,16 +30,16 @@ pub enum Kind {
     Redo,
 }
 
-pub const KINDS: [(&str, Kind); 5] = [
-    ("correct a byte", Kind::Byte),
-    ("correct a pair", Kind::Pair),
-    ("correct the OUT", Kind::Out),
-    ("undo", Kind::Undo),
-    ("redo", Kind::Redo),
+pub const TIMED_CALLS: [(&str, TimedCall); 5] = [
+    ("correct a byte", TimedCall::Byte),
+    ("correct a pair", TimedCall::Pair),
+    ("correct the OUT", TimedCall::Out),
+    ("undo", TimedCall::Undo),
+    ("redo", TimedCall::Redo),
 ];
 
 /// A 128K machine and a log full of good steps.
-pub struct Bench {
+pub struct FullLog {
     header: Vec<u8>,
     area: Vec<u8>,
     log: Vec<u8>,
@@ -47,15 +47,15 @@ pub struct Bench {
     total: u64,
 }
 
-impl Bench {
-    pub fn new() -> Bench {
+impl FullLog {
+    pub fn new() -> FullLog {
         let machine = Machine {
             model: Model::K128,
             paging: PAGE_AT,
             ..Machine::blank()
         };
         let step = Step::byte(PAGE_AT, OFFSET, VALUES.0, VALUES.1);
-        Bench {
+        FullLog {
             header: header(&machine).to_vec(),
             area: vec![0; MEMORY],
             log: step.bytes().repeat(STEPS),
@@ -66,21 +66,21 @@ impl Bench {
 
     /// One call that writes, undoes or redoes step `number`, counted from 1. The numbers and the byte are set
     /// so that it is accepted each time.
-    pub fn call(&mut self, kind: Kind, number: u64) -> u32 {
+    pub fn call(&mut self, kind: TimedCall, number: u64) -> u32 {
         let before = number - 1;
         (self.standing, self.total) = (before, before);
         match kind {
-            Kind::Undo => {
+            TimedCall::Undo => {
                 (self.standing, self.total) = (number, number);
                 self.area[PLACE] = VALUES.1;
             }
-            Kind::Redo => {
+            TimedCall::Redo => {
                 self.total = number;
                 self.area[PLACE] = VALUES.0;
             }
             _ => {}
         }
-        let lent = Session {
+        let lent = LogBuffers {
             header: black_box(&mut self.header),
             area: black_box(&mut self.area),
             log: black_box(&mut self.log),
@@ -88,27 +88,27 @@ impl Bench {
             total: &mut self.total,
         };
         match kind {
-            Kind::Byte => ffi::correct_byte(lent, ADDRESS, VALUES.1),
-            Kind::Pair => ffi::correct_pair(lent, 3, 0x1234),
-            Kind::Out => ffi::correct_out(lent, PAGE_AT),
-            Kind::Undo => ffi::undo(lent),
-            Kind::Redo => ffi::redo(lent),
+            TimedCall::Byte => ffi::correct_byte(lent, ADDRESS, VALUES.1),
+            TimedCall::Pair => ffi::correct_pair(lent, 3, 0x1234),
+            TimedCall::Out => ffi::correct_out(lent, PAGE_AT),
+            TimedCall::Undo => ffi::undo(lent),
+            TimedCall::Redo => ffi::redo(lent),
         }
     }
 
     /// The call is accepted at this step, writes its step there alone and leaves the numbers it should.
-    pub fn check(kind: Kind, number: u64) {
-        let mut bench = Bench::new();
-        let log = bench.log.clone();
-        assert_eq!(bench.call(kind, number), 0);
+    pub fn check(kind: TimedCall, number: u64) {
+        let mut full_log = FullLog::new();
+        let log = full_log.log.clone();
+        assert_eq!(full_log.call(kind, number), 0);
         let at = (number as usize - 1) * STEP;
-        let (is, was) = (&bench.log, &log);
+        let (is, was) = (&full_log.log, &log);
         assert!(is[..at] == was[..at] && is[at + STEP..] == was[at + STEP..]);
         let standing = match kind {
-            Kind::Undo => number - 1,
+            TimedCall::Undo => number - 1,
             _ => number,
         };
-        assert_eq!((bench.standing, bench.total), (standing, number));
+        assert_eq!((full_log.standing, full_log.total), (standing, number));
     }
 }
 
@@ -116,11 +116,11 @@ impl Bench {
 pub const CALLS: usize = 1_000;
 
 /// The call at one step, again and again.
-pub fn contender(kind: Kind, number: u64) -> Contender<'static> {
-    let mut bench = Bench::new();
+pub fn contender(kind: TimedCall, number: u64) -> Contender<'static> {
+    let mut full_log = FullLog::new();
     Box::new(move || {
         for _ in 0..CALLS {
-            black_box(bench.call(kind, black_box(number)));
+            black_box(full_log.call(kind, black_box(number)));
         }
     })
 }

@@ -4,7 +4,7 @@ use reference::memory::PAGE;
 use reference::samples::samples;
 use reference::z80::packed_blocks;
 
-pub struct Stored {
+pub struct StoredFile {
     pub name: String,
     /// The file, and two bytes of room that libspectrum needs.
     pub file_and_room: Vec<u8>,
@@ -18,7 +18,7 @@ pub struct Packed<'a> {
     pub page: &'a [u8],
 }
 
-impl Stored {
+impl StoredFile {
     pub fn file(&self) -> &[u8] {
         &self.file_and_room[..self.file_and_room.len() - 2]
     }
@@ -37,13 +37,13 @@ impl Stored {
 }
 
 /// The ten 128K files of the images.
-pub fn all(dir: &str) -> Vec<Stored> {
+pub fn all(dir: &str) -> Vec<StoredFile> {
     let mut files = Vec::new();
     for sample in samples().into_iter().take(10) {
         let path = format!("{dir}/{}", sample.file_name());
         let mut file = std::fs::read(&path).expect(&path);
         file.extend([0, 0]);
-        files.push(Stored {
+        files.push(StoredFile {
             name: sample.name,
             file_and_room: file,
             header: reference::machine::header(&sample.machine).to_vec(),

@@ -1,6 +1,6 @@
 //! One direction of the work, and its times over the files.
 
-use super::{Stored, Timed, Who};
+use super::{StoredFile, Timed, Who};
 use reference::memory::Rng;
 
 pub struct Direction {
@@ -8,19 +8,19 @@ pub struct Direction {
     /// What is done with a file.
     pub what: &'static str,
     /// Times it over the files; nothing where they give no work.
-    pub time: fn(&[Stored], &mut Rng) -> Option<Timed>,
+    pub time: fn(&[StoredFile], &mut Rng) -> Option<Timed>,
 }
 
 /// The times of each file, and of all together.
-pub struct Measured {
+pub struct DirectionTimes {
     pub direction: Direction,
     pub each: Vec<Option<Timed>>,
     pub all: Option<Timed>,
 }
 
-impl Measured {
-    pub fn of(direction: Direction) -> Measured {
-        Measured {
+impl DirectionTimes {
+    pub fn of(direction: Direction) -> DirectionTimes {
+        DirectionTimes {
             direction,
             each: Vec::new(),
             all: None,

@@ -11,6 +11,6 @@ mod theirs;
 mod timed;
 pub mod z80;
 
-pub use files::{all, Stored};
-pub use measured::{Direction, Measured};
+pub use files::{all, StoredFile};
+pub use measured::{Direction, DirectionTimes};
 pub use timed::{Timed, Who};

@@ -2,18 +2,18 @@
 //! is a memcpy of the same pages and a memset of as many bytes.
 
 use super::files::Packed;
-use super::{Direction, Stored, Timed, Who};
+use super::{Direction, StoredFile, Timed, Who};
 use crate::ffi_packing;
 use bench::timing::Contender;
 use reference::memory::{Rng, PAGE};
-use reference::packing::{pack_into, packed, unpack_into, wordwise, Answer};
+use reference::packing::{pack_into, packed, unpack_into, wordwise, UnpackAnswer};
 use std::cell::RefCell;
 use std::hint::black_box;
 
 /// Room for any packed page.
 const ROOM: usize = 27_306;
 
-type Unpack = fn(&[u8], &mut [u8]) -> Answer;
+type Unpack = fn(&[u8], &mut [u8]) -> UnpackAnswer;
 type Pack = fn(&[u8], &mut [u8]) -> Option<usize>;
 
 const UNPACKERS: [(Who, Unpack); 3] = [
@@ -28,11 +28,11 @@ const PACKERS: [(Who, Pack); 3] = [
     (Who::Wordwise, wordwise::pack_into),
 ];
 
-fn library_unpack(block: &[u8], part: &mut [u8]) -> Answer {
+fn library_unpack(block: &[u8], part: &mut [u8]) -> UnpackAnswer {
     match ffi_packing::unpack(block, part) {
-        0 => Answer::Good,
-        1 => Answer::Malformed,
-        _ => Answer::WrongLength,
+        0 => UnpackAnswer::Good,
+        1 => UnpackAnswer::Malformed,
+        _ => UnpackAnswer::WrongLength,
     }
 }
 
@@ -51,11 +51,11 @@ fn fill(page: &[u8], part: &mut [u8]) {
 }
 
 /// All do the same work, or the times mean nothing.
-pub fn check(stored: &Stored) {
+pub fn check(stored: &StoredFile) {
     for Packed { block, page } in stored.packed() {
         for (rubbish, (_, unpack)) in (1..).zip(UNPACKERS) {
             let mut part = vec![rubbish; PAGE];
-            assert_eq!(unpack(block, &mut part), Answer::Good);
+            assert_eq!(unpack(block, &mut part), UnpackAnswer::Good);
             assert!(part == page, "unpacked pages differ");
         }
     }
@@ -106,8 +106,8 @@ impl Work<'_> {
     }
 }
 
-fn time_unpack(files: &[Stored], rng: &mut Rng) -> Option<Timed> {
-    let packed = || files.iter().flat_map(Stored::packed);
+fn time_unpack(files: &[StoredFile], rng: &mut Rng) -> Option<Timed> {
+    let packed = || files.iter().flat_map(StoredFile::packed);
     let work = Work {
         sources: packed().map(|packed| packed.block).collect(),
         pages: packed().map(|packed| packed.page).collect(),
@@ -116,8 +116,8 @@ fn time_unpack(files: &[Stored], rng: &mut Rng) -> Option<Timed> {
     (!work.sources.is_empty()).then(|| work.timed(UNPACKERS, rng))
 }
 
-fn time_pack(files: &[Stored], rng: &mut Rng) -> Option<Timed> {
-    let pages: Vec<&[u8]> = files.iter().flat_map(Stored::pages).collect();
+fn time_pack(files: &[StoredFile], rng: &mut Rng) -> Option<Timed> {
+    let pages: Vec<&[u8]> = files.iter().flat_map(StoredFile::pages).collect();
     let work = Work {
         sources: pages.clone(),
         pages,

@@ -2,11 +2,11 @@
 
 use super::scale::Scale;
 use super::svg::{Anchor, Point, Svg};
-use super::{Measured, Stored, Timed, Who};
+use super::{DirectionTimes, StoredFile, Timed, Who};
 use bench::timing::ROUNDS;
 
 /// How one is drawn: the words of the legend, the outline around its point, the colour.
-struct Look {
+struct Mark {
     who: Who,
     words: &'static str,
     outline: &'static str,
@@ -14,32 +14,32 @@ struct Look {
 }
 
 /// In the order of drawing, the largest first: where all fall together, each still shows.
-const LOOKS: [Look; 5] = [
-    Look {
+const MARKS: [Mark; 5] = [
+    Mark {
         who: Who::Memcpy,
         words: "memcpy of the pages",
         outline: "M-0.5-8H0.5V8H-0.5z",
         colour: "#222222",
     },
-    Look {
+    Mark {
         who: Who::Libspectrum,
         words: "libspectrum",
         outline: "M0-7L6.5 5H-6.5z",
         colour: "#ffffff",
     },
-    Look {
+    Mark {
         who: Who::Ordinary,
         words: "ordinary Rust",
         outline: "M-6-6H6V6H-6z",
         colour: "#f2b84b",
     },
-    Look {
+    Mark {
         who: Who::Wordwise,
         words: "word-wise Rust",
         outline: "M0-6.5L6.5 0L0 6.5L-6.5 0z",
         colour: "#4fa3a5",
     },
-    Look {
+    Mark {
         who: Who::Library,
         words: "library",
         outline: "M-3.5 0a3.5 3.5 0 1 0 7 0a3.5 3.5 0 1 0-7 0z",
@@ -47,7 +47,7 @@ const LOOKS: [Look; 5] = [
     },
 ];
 
-const PAGE: Point = (1000.0, 736.0);
+const DRAWING_SIZE: Point = (1000.0, 736.0);
 
 /// The left upper corner of each panel's axes, and their size.
 const PANELS: [Point; 4] = [
@@ -60,11 +60,11 @@ const SIZE: Point = (368.0, 230.0);
 
 const GRID: &str = "#dddddd";
 
-pub fn draw(files: &[Stored], measured: [&Measured; 4]) -> String {
+pub fn draw(files: &[StoredFile], measured: [&DirectionTimes; 4]) -> String {
     let timed = || measured.iter().flat_map(|way| &way.each).flatten();
     let times: Vec<f64> = timed().flat_map(drawn).map(|(_, time)| time).collect();
     let scale = Scale::over(&times);
-    let mut svg = Svg::new(PAGE);
+    let mut svg = Svg::new(DRAWING_SIZE);
     let title = format!(
         "Time for each of ten 128K files<tspan dx=\"18\" font-size=\"13\">medians of {ROUNDS} \
          interleaved runs; the files were written by libspectrum</tspan>"
@@ -80,25 +80,25 @@ pub fn draw(files: &[Stored], measured: [&Measured; 4]) -> String {
     svg.finish()
 }
 
-/// The times that are drawn, with their looks.
-fn drawn(timed: &Timed) -> impl Iterator<Item = (&'static Look, f64)> + '_ {
-    let time = |look: &'static Look| Some((look, timed.micros(look.who)?));
-    LOOKS.iter().filter_map(time)
+/// The times that are drawn, with their marks.
+fn drawn(timed: &Timed) -> impl Iterator<Item = (&'static Mark, f64)> + '_ {
+    let time = |mark: &'static Mark| Some((mark, timed.micros(mark.who)?));
+    MARKS.iter().filter_map(time)
 }
 
 /// The marks and their words in one line, the library first.
 fn legend(svg: &mut Svg, is_drawn: impl Fn(Who) -> bool) {
     let (mut x, y) = (28.0, 66.0);
-    for look in LOOKS.iter().rev().filter(|look| is_drawn(look.who)) {
-        svg.define(look.who.name(), look.outline, look.colour);
-        svg.place(look.who.name(), (x, y));
-        svg.text((x + 13.0, y + 4.5), Anchor::Start, 14, look.words);
-        x += 60.0 + 7.5 * look.words.len() as f64;
+    for mark in MARKS.iter().rev().filter(|mark| is_drawn(mark.who)) {
+        svg.define(mark.who.name(), mark.outline, mark.colour);
+        svg.place(mark.who.name(), (x, y));
+        svg.text((x + 13.0, y + 4.5), Anchor::Start, 14, mark.words);
+        x += 60.0 + 7.5 * mark.words.len() as f64;
     }
 }
 
 /// A panel's title, and the axis of the times with its grid.
-fn axes(svg: &mut Svg, (left, top): Point, way: &Measured, scale: &Scale) {
+fn axes(svg: &mut Svg, (left, top): Point, way: &DirectionTimes, scale: &Scale) {
     let (width, bottom) = (SIZE.0, top + SIZE.1);
     let title = format!(
         "<tspan font-weight=\"bold\">{}</tspan>: {}",
@@ -120,7 +120,13 @@ fn axes(svg: &mut Svg, (left, top): Point, way: &Measured, scale: &Scale) {
 }
 
 /// A row for each file, with the marks of its times.
-fn rows(svg: &mut Svg, (left, top): Point, way: &Measured, files: &[Stored], scale: &Scale) {
+fn rows(
+    svg: &mut Svg,
+    (left, top): Point,
+    way: &DirectionTimes,
+    files: &[StoredFile],
+    scale: &Scale,
+) {
     let height = SIZE.1 / files.len() as f64;
     for (row, (stored, timed)) in files.iter().zip(&way.each).enumerate() {
         let y = top + height * (row as f64 + 0.5);
@@ -132,9 +138,9 @@ fn rows(svg: &mut Svg, (left, top): Point, way: &Measured, files: &[Stored], sca
             continue;
         };
         svg.line((left, y), (left + SIZE.0, y), GRID);
-        for (look, time) in drawn(timed) {
+        for (mark, time) in drawn(timed) {
             let x = left + SIZE.0 * scale.place(time);
-            svg.place(look.who.name(), (x, y));
+            svg.place(mark.who.name(), (x, y));
         }
     }
 }

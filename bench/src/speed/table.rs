@@ -1,6 +1,6 @@
 //! Measures two directions over the files and prints a line for each file and one for all.
 
-use super::{Direction, Measured, Stored, Timed, Who};
+use super::{Direction, DirectionTimes, StoredFile, Timed, Who};
 use reference::memory::Rng;
 
 /// Who all ratios are to.
@@ -9,28 +9,28 @@ const ANCHOR: Who = Who::Wordwise;
 pub fn measure(
     directions: [Direction; 2],
     shown: &[Who],
-    files: &[Stored],
+    files: &[StoredFile],
     rng: &mut Rng,
-) -> [Measured; 2] {
-    let mut measured = directions.map(Measured::of);
+) -> [DirectionTimes; 2] {
+    let mut measured = directions.map(DirectionTimes::of);
     head(&measured, shown);
     for stored in files {
         let one = std::slice::from_ref(stored);
         for way in &mut measured {
             way.each.push((way.direction.time)(one, rng));
         }
-        let last = |way: &Measured| columns(way.each.last().and_then(Option::as_ref), shown);
+        let last = |way: &DirectionTimes| columns(way.each.last().and_then(Option::as_ref), shown);
         line(&stored.name, measured.each_ref().map(last));
     }
     for way in &mut measured {
         way.all = (way.direction.time)(files, rng);
     }
-    let all = |way: &Measured| columns(way.all.as_ref(), shown);
+    let all = |way: &DirectionTimes| columns(way.all.as_ref(), shown);
     line("all ten", measured.each_ref().map(all));
     measured
 }
 
-fn head(measured: &[Measured; 2], shown: &[Who]) {
+fn head(measured: &[DirectionTimes; 2], shown: &[Who]) {
     let heads = measured.each_ref().map(|way| {
         let names = shown.iter().map(|who| format!(" {:>11}", who.name()));
         format!("{:>9} us{}", way.direction.name, names.collect::<String>())
@@ -54,7 +54,7 @@ fn line(name: &str, [left, right]: [String; 2]) {
 }
 
 /// What a byte of memory costs over all files, beside the floor.
-pub fn costs(measured: &[Measured; 2]) {
+pub fn costs(measured: &[DirectionTimes; 2]) {
     const SHOWN: [Who; 3] = [Who::Library, Who::Memcpy, Who::Memset];
     let names = SHOWN.map(|who| format!(" {:>11}", who.name()));
     println!("{:<16}{}", "", names.concat());

@@ -8,12 +8,12 @@ pub use present::{check, reader, writer};
 #[cfg(libspectrum)]
 mod present {
     use crate::libspectrum::{read, start};
-    use crate::speed::Stored;
+    use crate::speed::StoredFile;
     use bench::timing::Contender;
     use std::hint::black_box;
 
     /// It reads the same memory and writes a file of the same length.
-    pub fn check(stored: &Stored, length: usize) {
+    pub fn check(stored: &StoredFile, length: usize) {
         assert!(start());
         let snap = read(&stored.file_and_room).expect("a snapshot");
         for (page, bytes) in stored.pages().enumerate() {
@@ -22,7 +22,7 @@ mod present {
         assert_eq!(snap.write(), length);
     }
 
-    pub fn reader(files: &[Stored]) -> Option<Contender<'_>> {
+    pub fn reader(files: &[StoredFile]) -> Option<Contender<'_>> {
         Some(Box::new(move || {
             for stored in files {
                 black_box(read(black_box(&stored.file_and_room)));
@@ -31,7 +31,7 @@ mod present {
     }
 
     /// Writes snapshots that are in its memory already.
-    pub fn writer(files: &[Stored]) -> Option<Contender<'_>> {
+    pub fn writer(files: &[StoredFile]) -> Option<Contender<'_>> {
         let snaps: Vec<_> = files.iter().map(|f| read(&f.file_and_room)).collect();
         Some(Box::new(move || {
             for snap in snaps.iter().flatten() {
@@ -43,16 +43,16 @@ mod present {
 
 #[cfg(not(libspectrum))]
 mod absent {
-    use crate::speed::Stored;
+    use crate::speed::StoredFile;
     use bench::timing::Contender;
 
-    pub fn check(_: &Stored, _: usize) {}
+    pub fn check(_: &StoredFile, _: usize) {}
 
-    pub fn reader(_: &[Stored]) -> Option<Contender<'_>> {
+    pub fn reader(_: &[StoredFile]) -> Option<Contender<'_>> {
         None
     }
 
-    pub fn writer(_: &[Stored]) -> Option<Contender<'_>> {
+    pub fn writer(_: &[StoredFile]) -> Option<Contender<'_>> {
         None
     }
 }

@@ -1,6 +1,6 @@
 //! Reading stored files, and writing their machines and memories.
 
-use super::{theirs, Direction, Stored, Timed, Who};
+use super::{theirs, Direction, StoredFile, Timed, Who};
 use crate::ffi_snapshot;
 use bench::timing::Contender;
 use reference::machine::HEADER;
@@ -10,23 +10,23 @@ use reference::z80::{direct, LONGEST_FILE};
 use std::cell::RefCell;
 use std::hint::black_box;
 
-type Read = fn(&[u8], &mut [u8], &mut [u8]) -> u32;
-type Write = fn(&[u8], &[u8], &mut [u8], &mut u64) -> u32;
+type ReadCall = fn(&[u8], &mut [u8], &mut [u8]) -> u32;
+type WriteCall = fn(&[u8], &[u8], &mut [u8], &mut u64) -> u32;
 
-const READERS: [(Who, Read); 3] = [
+const READERS: [(Who, ReadCall); 3] = [
     (Who::Library, ffi_snapshot::read),
     (Who::Ordinary, direct::read_bytes::<Ordinary>),
     (Who::Wordwise, direct::read_bytes::<Wordwise>),
 ];
 
-const WRITERS: [(Who, Write); 3] = [
+const WRITERS: [(Who, WriteCall); 3] = [
     (Who::Library, ffi_snapshot::write),
     (Who::Ordinary, direct::write_bytes::<Ordinary>),
     (Who::Wordwise, direct::write_bytes::<Wordwise>),
 ];
 
 /// All do the same work, or the times mean nothing.
-pub fn check(stored: &Stored) {
+pub fn check(stored: &StoredFile) {
     let (header, memory) = (&stored.header[..], &stored.memory[..]);
     for (rubbish, (_, read)) in (1..).zip(READERS) {
         let (mut area, mut machine) = (vec![rubbish; MEMORY], vec![rubbish; HEADER]);
@@ -45,9 +45,9 @@ pub fn check(stored: &Stored) {
 }
 
 /// The area and the header that all contenders read into.
-type Memory = RefCell<(Vec<u8>, Vec<u8>)>;
+type ReadBuffers = RefCell<(Vec<u8>, Vec<u8>)>;
 
-fn reader<'a>(files: &'a [Stored], to: &'a Memory, call: Read) -> Contender<'a> {
+fn reader<'a>(files: &'a [StoredFile], to: &'a ReadBuffers, call: ReadCall) -> Contender<'a> {
     Box::new(move || {
         let (area, header) = &mut *to.borrow_mut();
         for stored in files {
@@ -57,14 +57,18 @@ fn reader<'a>(files: &'a [Stored], to: &'a Memory, call: Read) -> Contender<'a> 
     })
 }
 
-fn time_read(files: &[Stored], rng: &mut Rng) -> Option<Timed> {
+fn time_read(files: &[StoredFile], rng: &mut Rng) -> Option<Timed> {
     let to = RefCell::new((vec![0; MEMORY], vec![0; HEADER]));
     let ours = READERS.map(|(who, call)| (who, reader(files, &to, call)));
     timed(files, ours, theirs::reader(files), rng)
 }
 
 /// The output is shared by all contenders.
-fn writer<'a>(files: &'a [Stored], out: &'a RefCell<Vec<u8>>, call: Write) -> Contender<'a> {
+fn writer<'a>(
+    files: &'a [StoredFile],
+    out: &'a RefCell<Vec<u8>>,
+    call: WriteCall,
+) -> Contender<'a> {
     Box::new(move || {
         let (out, mut length) = (&mut *out.borrow_mut(), 0);
         for stored in files {
@@ -74,14 +78,14 @@ fn writer<'a>(files: &'a [Stored], out: &'a RefCell<Vec<u8>>, call: Write) -> Co
     })
 }
 
-fn time_write(files: &[Stored], rng: &mut Rng) -> Option<Timed> {
+fn time_write(files: &[StoredFile], rng: &mut Rng) -> Option<Timed> {
     let out = RefCell::new(vec![0; LONGEST_FILE]);
     let ours = WRITERS.map(|(who, call)| (who, writer(files, &out, call)));
     timed(files, ours, theirs::writer(files), rng)
 }
 
 fn timed(
-    files: &[Stored],
+    files: &[StoredFile],
     ours: [(Who, Contender); 3],
     theirs: Option<Contender>,
     rng: &mut Rng,

@@ -1,15 +1,14 @@
 -- Two lists compared byte by byte: whether they are the same.
 use Prim.Native.Nat.{ℕ, _+_, _≤_, _<_}
-use native.Mathlib.Numerals.{add-one}
 use native.Mathlib.Omega.{arith}
 use mathlib.Core.Path.{_≡_, refl, sym, ap, _∙_}
 use mathlib.Core.Bool.{Bool, true, false}
 use mathlib.Core.List.{List, [], _∷_}
 use lib.ListN.{length, getD, drop, drop-of-length-le}
-use lib.Seq.{drop-cons}
 use lib.Dec.{eqb}
 use Rattle.slices.specs.Choose.{both}
 use Rattle.slices.specs.Same.{same}
+use Rattle.slices.proofs.Drops.{drop-next}
 use Rattle.slices.proofs.Chosen.{both-end, both-again, same-true}
 
 pub other-length : (s h : List ℕ) → (length s ≡ length h → ⊥) → false ≡ same s h
@@ -29,11 +28,8 @@ pub compared-none : (s h : List ℕ) → length s ≡ length h → Compared s h 
 compared-none s h e = record { lengths = e; reach = omega arith; so-far = refl }
 
 module _ (s h : List ℕ) (i : ℕ) (t : Bool) (g : Compared s h i t) where
-  drop-at-next : (l : List ℕ) → i < length l → drop i l ≡ getD l i 0 ∷ drop (i + 1) l
-  drop-at-next l b = drop-cons l i 0 b ∙ ap (λ (k : ℕ). getD l i 0 ∷ drop k l) (sym (add-one i))
-
   same-next : i < length s → same (drop i s) (drop i h) ≡ both (eqb (getD s i 0) (getD h i 0)) (same (drop (i + 1) s) (drop (i + 1) h))
-  same-next b = ap (λ (l : List ℕ). same l (drop i h)) (drop-at-next s b) ∙ ap (same (getD s i 0 ∷ drop (i + 1) s)) (drop-at-next h (rw (sym (g .lengths)) b))
+  same-next b = ap (λ (l : List ℕ). same l (drop i h)) (drop-next s i b) ∙ ap (same (getD s i 0 ∷ drop (i + 1) s)) (drop-next h i (rw (sym (g .lengths)) b))
 
   pub compared-more : (u : Bool) → i < length s → u ≡ both t (eqb (getD s i 0) (getD h i 0)) → Compared s h (i + 1) u
   compared-more u b e =

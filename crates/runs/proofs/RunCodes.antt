@@ -1,11 +1,11 @@
 -- The code at a place, by how long the run there is.
 use Prim.Native.Nat.{ℕ, _+_, _-_, _≤_, _<_, min}
-use native.Mathlib.Numerals.{add-one}
 use native.Mathlib.Omega.{arith}
 use mathlib.Core.Path.{_≡_, refl, sym, ap, subst, _∙_}
 use mathlib.Core.List.{List, [], _∷_, _++_}
 use lib.ListN.{length, getD, take, drop, replicate, drop-of-length-le}
 use lib.Seq.{drop-drop, drop-cons}
+use Rattle.slices.proofs.Drops.{drop-next}
 use Rattle.packed.specs.Packed.{front, packed}
 use Rattle.packed.specs.Packed.CodeLaws.{run-code, single-code, short-code}
 use Rattle.runs.specs.Inner.{runAt, RunLeft}
@@ -16,13 +16,10 @@ pub record Coded (s : List ℕ) (i : ℕ) (ws : List ℕ) (j : ℕ) : Type 0 whe
   pub inside : j ≤ length s
 
 module _ (s : List ℕ) (i : ℕ) (h : i < length s) where
-  drop-here : drop i s ≡ getD s i 0 ∷ drop (i + 1) s
-  drop-here = drop-cons s i 0 h ∙ ap (λ (k : ℕ). getD s i 0 ∷ drop k s) (sym (add-one i))
-
   coded-next : (ws : List ℕ) (k j : ℕ) → packed (getD s i 0 ∷ drop (i + 1) s) ≡ ws ++ packed (drop k (drop (i + 1) s)) → i + 1 + k ≡ j → j ≤ length s → Coded s i ws j
   coded-next ws k j e m l =
       record {
-        step = ap packed drop-here ∙ e ∙ ap (λ (z : List ℕ). ws ++ packed z) (drop-drop k (i + 1) s ∙ ap (λ (m : ℕ). drop m s) m);
+        step = ap packed (drop-next s i h) ∙ e ∙ ap (λ (z : List ℕ). ws ++ packed z) (drop-drop k (i + 1) s ∙ ap (λ (m : ℕ). drop m s) m);
         inside = l;
       }
 
@@ -45,7 +42,7 @@ module _ (s : List ℕ) (i : ℕ) (h : i < length s) where
         let m : i + 1 + front (getD s i 0) (drop (i + 1) s) ≡ i + r = omega arith in
         record {
           step =
-              ap packed drop-here ∙ short-code (getD s i 0) (drop (i + 1) s) e (omega arith)
+              ap packed (drop-next s i h) ∙ short-code (getD s i 0) (drop (i + 1) s) e (omega arith)
               ∙ ap (λ (z : List ℕ). replicate (runAt s i) (getD s i 0) ++ packed z)
               (drop-drop (front (getD s i 0) (drop (i + 1) s)) (i + 1) s ∙ ap (λ (m : ℕ). drop m s) m)
               ∙ ap (λ (n : ℕ). replicate n (getD s i 0) ++ packed (drop (i + r) s)) (sym q);
@@ -63,7 +60,7 @@ module _ (s : List ℕ) (i : ℕ) (h : i < length s) where
         let z : drop (i + 1) s ≡ [] = drop-of-length-le s {i = i + 1} l in
         record {
           step =
-              ap packed drop-here ∙ single-code (getD s i 0) (drop (i + 1) s) e (omega (arith, g .counted))
+              ap packed (drop-next s i h) ∙ single-code (getD s i 0) (drop (i + 1) s) e (omega (arith, g .counted))
               ∙ ap (λ (xs : List ℕ). 237 ∷ (take 1 xs ++ packed (drop 1 xs))) z
               ∙ sym (ap (λ (xs : List ℕ). getD s i 0 ∷ packed xs) z ∙ ap (λ (x : ℕ). x ∷ packed []) e);
           inside = omega arith;

@@ -1,3 +1,4 @@
 pub mod Chosen
+pub mod Drops
 pub mod Fills
 pub mod Puts

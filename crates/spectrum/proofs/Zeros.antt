@@ -1,15 +1,14 @@
 -- Bytes looked at one by one: whether all are 0.
 use Prim.Native.Nat.{ℕ, zero, suc, _+_, _≤_, _<_}
-use native.Mathlib.Numerals.{add-one}
 use native.Mathlib.Omega.{arith}
 use mathlib.Core.Path.{_≡_, refl, sym, ap, _∙_}
 use mathlib.Core.Bool.{Bool, true}
 use mathlib.Core.List.{List, [], _∷_}
 use lib.ListN.{length, getD, drop, replicate, drop-of-length-le}
-use lib.Seq.{drop-cons}
 use lib.Dec.{eqb}
 use borrow.Author.Tests.{eqb-true}
 use Rattle.slices.specs.Choose.{both}
+use Rattle.slices.proofs.Drops.{drop-next}
 use Rattle.slices.proofs.Chosen.{both-true, both-end, both-again}
 use Rattle.spectrum.specs.Valid.{zeros}
 
@@ -23,7 +22,7 @@ looked-none s = record { reach = omega arith; so-far = refl }
 
 module _ (s : List ℕ) (i : ℕ) (t : Bool) (g : ZeroSoFar s i t) where
   zeros-next : i < length s → zeros (drop i s) ≡ both (eqb (getD s i 0) 0) (zeros (drop (i + 1) s))
-  zeros-next h = ap zeros (drop-cons s i 0 h ∙ ap (λ (k : ℕ). getD s i 0 ∷ drop k s) (sym (add-one i)))
+  zeros-next h = ap zeros (drop-next s i h)
 
   pub looked-more : (u : Bool) → i < length s → u ≡ both t (eqb (getD s i 0) 0) → ZeroSoFar s (i + 1) u
   looked-more u h e = record { reach = omega arith; so-far = ap (λ (v : Bool). both v (zeros (drop (i + 1) s))) e ∙ both-again t (eqb (getD s i 0) 0) (zeros (drop (i + 1) s)) ∙ ap (both t) (sym (zeros-next h)) ∙ g .so-far }

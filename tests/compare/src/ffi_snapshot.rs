@@ -189,7 +189,7 @@ pub fn log_start(log: &mut [u8], standing: &mut u64, total: &mut u64) -> u32 {
 }
 
 /// What is lent to every call of the journal.
-pub struct Session<'a> {
+pub struct LogBuffers<'a> {
     pub header: &'a mut [u8],
     pub area: &'a mut [u8],
     pub log: &'a mut [u8],
@@ -210,26 +210,26 @@ macro_rules! call {
 }
 
 /// Gives the byte at an address a value.
-pub fn correct_byte(lent: Session, address: u16, value: u8) -> u32 {
+pub fn correct_byte(lent: LogBuffers, address: u16, value: u8) -> u32 {
     call!(snap_correct_byte, lent, address, value)
 }
 
 /// Gives a register pair a value.
-pub fn correct_pair(lent: Session, pair: u8, value: u16) -> u32 {
+pub fn correct_pair(lent: LogBuffers, pair: u8, value: u16) -> u32 {
     call!(snap_correct_pair, lent, pair, value)
 }
 
 /// Makes an OUT to 7FFD.
-pub fn correct_out(lent: Session, value: u8) -> u32 {
+pub fn correct_out(lent: LogBuffers, value: u8) -> u32 {
     call!(snap_correct_out, lent, value)
 }
 
 /// Takes the last applied correction back.
-pub fn undo(lent: Session) -> u32 {
+pub fn undo(lent: LogBuffers) -> u32 {
     call!(snap_undo, lent)
 }
 
 /// Makes the next undone correction again.
-pub fn redo(lent: Session) -> u32 {
+pub fn redo(lent: LogBuffers) -> u32 {
     call!(snap_redo, lent)
 }

@@ -4,7 +4,7 @@ use std::hint::black_box;
 
 const GUARD: usize = 32;
 
-pub struct Lent {
+pub struct LentPart {
     buffer: Vec<u8>,
     length: usize,
     /// What every place holds before a call, from the first on.
@@ -20,10 +20,10 @@ fn dirty(fill: u64, at: usize) -> u8 {
 /// The dirty bytes come again after this many.
 const PERIOD: usize = 256;
 
-impl Lent {
+impl LentPart {
     /// A part of `length` bytes, dirty in a way given by `fill`.
-    pub fn new(length: usize, fill: u64) -> Lent {
-        let mut lent = Lent {
+    pub fn new(length: usize, fill: u64) -> LentPart {
+        let mut lent = LentPart {
             buffer: Vec::new(),
             length,
             dirty: [0; PERIOD + GUARD],
@@ -43,8 +43,8 @@ impl Lent {
     }
 
     /// A part that holds `bytes`, to be read only.
-    pub fn holding(bytes: &[u8], fill: u64) -> Lent {
-        let mut lent = Lent::new(bytes.len(), fill);
+    pub fn holding(bytes: &[u8], fill: u64) -> LentPart {
+        let mut lent = LentPart::new(bytes.len(), fill);
         lent.part_mut().copy_from_slice(bytes);
         lent
     }

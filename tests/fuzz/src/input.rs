@@ -4,13 +4,13 @@ use reference::machine::HEADER;
 use reference::memory::{MEMORY, PAGE};
 
 #[derive(Debug, Clone, Copy, PartialEq, Eq)]
-pub enum Mode {
+pub enum InputMode {
     Read,
     Write,
     Log,
 }
 
-pub const MODES: [Mode; 3] = [Mode::Read, Mode::Write, Mode::Log];
+pub const MODES: [InputMode; 3] = [InputMode::Read, InputMode::Write, InputMode::Log];
 
 pub struct Input<'a> {
     rest: &'a [u8],
@@ -46,7 +46,7 @@ impl<'a> Input<'a> {
         u16::from_le_bytes([self.byte(), self.byte()]).into()
     }
 
-    pub fn mode(&mut self) -> Mode {
+    pub fn mode(&mut self) -> InputMode {
         MODES[usize::from(self.byte()) % MODES.len()]
     }
 

@@ -4,7 +4,7 @@ use super::input::{Input, Picked};
 use super::memory::seeded;
 use super::reached::{mark, row};
 use super::target::Target;
-use compare::calls::seen::Function;
+use compare::calls::seen::CountedFunction;
 use compare::calls::{answer, note, outcome, view};
 use compare::machines;
 use compare::report::Outcome;
@@ -170,7 +170,7 @@ impl List<'_> {
             26 | 29 => self.log_pick.saturating_sub(248),
             _ => self.picked.case(given, case_of(call)),
         };
-        mark(row(Function::of(call)), given, case);
+        mark(row(CountedFunction::of(call)), given, case);
         let Some(model) = &mut self.model else {
             return Ok(());
         };
@@ -190,7 +190,11 @@ impl List<'_> {
         library.lend(&lent.header, &lent.log, lent.standing, lent.total);
         let rom = &roms[usize::from(rom) % roms.len()];
         let number = view::call(&mut journal.seen, &library.header, rom, &library.area, page)?;
-        mark(row(Function::View), number, self.picked.case(number, page));
+        mark(
+            row(CountedFunction::View),
+            number,
+            self.picked.case(number, page),
+        );
         outcome(library.differences(lent))
     }
 }

@@ -1,14 +1,14 @@
 //! Which calls gave which numbers in which cases, for libFuzzer, which takes each cell for a branch of the program.
 
-use compare::calls::seen::{Function, NUMBERS};
+use compare::calls::seen::{CountedFunction, NUMBERS};
 use std::sync::atomic::{AtomicU8, Ordering};
 
 /// The rows of cells: reading, writing, and the functions of the log.
-pub const READ: usize = 0;
-pub const WRITE: usize = 1;
+pub const READ_ROW: usize = 0;
+pub const WRITE_ROW: usize = 1;
 const ROWS: usize = 9;
 
-pub fn row(function: Function) -> usize {
+pub fn row(function: CountedFunction) -> usize {
     2 + function as usize
 }
 

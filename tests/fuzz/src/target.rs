@@ -1,11 +1,11 @@
 //! What an input is run on: both sides of every comparison.
 
-use super::input::{Input, Mode, Picked};
+use super::input::{Input, InputMode, Picked};
 use super::log;
 use super::memory::described;
-use super::reached::{mark, READ, WRITE};
+use super::reached::{mark, READ_ROW, WRITE_ROW};
 use compare::calls::{files, journal};
-use compare::lent::Lent;
+use compare::lent::LentPart;
 use compare::report::{Group, Outcome};
 use reference::machine::own_header;
 use reference::memory::{Rng, MEMORY, PAGE};
@@ -15,9 +15,9 @@ use reference::z80::write;
 const ROMS: [usize; 5] = [PAGE, 2 * PAGE, 0, PAGE - 1, 3 * PAGE];
 
 pub struct Target {
-    pub files: files::Checker,
-    pub journal: journal::Checker,
-    pub roms: [Lent; ROMS.len()],
+    pub files: files::FileChecker,
+    pub journal: journal::JournalChecker,
+    pub roms: [LentPart; ROMS.len()],
     pub calls: Group,
     /// How many calls were also compared with the model.
     pub modelled: u64,
@@ -26,9 +26,9 @@ pub struct Target {
 impl Default for Target {
     fn default() -> Target {
         Target {
-            files: files::Checker::new(0),
-            journal: journal::Checker::new(0),
-            roms: ROMS.map(|length| Lent::new(length, 3)),
+            files: files::FileChecker::new(0),
+            journal: journal::JournalChecker::new(0),
+            roms: ROMS.map(|length| LentPart::new(length, 3)),
             calls: Group::default(),
             modelled: 0,
         }
@@ -45,9 +45,9 @@ impl Target {
         let mode = input.mode();
         let picked = Picked::of(input.byte());
         match mode {
-            Mode::Read => self.read(&picked, input.rest()),
-            Mode::Write => self.write(&picked, &mut input),
-            Mode::Log => log::run(self, &picked, &mut input),
+            InputMode::Read => self.read(&picked, input.rest()),
+            InputMode::Write => self.write(&picked, &mut input),
+            InputMode::Log => log::run(self, &picked, &mut input),
         }
     }
 
@@ -55,7 +55,7 @@ impl Target {
     fn read(&mut self, picked: &Picked, file: &[u8]) -> Outcome {
         let files = &mut self.files;
         let number = files.read_into(&mut self.calls, file, picked.area, picked.header)?;
-        mark(READ, number, picked.case(number, case_of(file)));
+        mark(READ_ROW, number, picked.case(number, case_of(file)));
         if number != 0 {
             return Ok(());
         }
@@ -84,7 +84,7 @@ impl Target {
     ) -> Outcome {
         let (calls, room) = (&mut self.calls, picked.room(length));
         let number = self.files.write_into(calls, header, memory, room)?;
-        mark(WRITE, number, picked.case(number, picked.choice));
+        mark(WRITE_ROW, number, picked.case(number, picked.choice));
         Ok(())
     }
 }

@@ -14,7 +14,7 @@ pub const MEMORY: usize = 8 * PAGE;
 
 /// Ten memory images of 131,072 bytes; the same seed gives the same images.
 pub fn images(seed: u64) -> Vec<(&'static str, Vec<u8>)> {
-    let kinds: [(&'static str, kinds::Page); 10] = [
+    let kinds: [(&'static str, kinds::PageMaker); 10] = [
         ("code", kinds::code),
         ("text", kinds::text),
         ("screens", kinds::screen),
@@ -27,7 +27,7 @@ pub fn images(seed: u64) -> Vec<(&'static str, Vec<u8>)> {
         ("mixed pages", kinds::mixed),
     ];
     let mut rng = Rng::new(seed);
-    let image = |(name, page): (&'static str, kinds::Page)| {
+    let image = |(name, page): (&'static str, kinds::PageMaker)| {
         let mut memory = Vec::with_capacity(MEMORY);
         for number in 0..8 {
             page(&mut rng, number, &mut memory);

@@ -6,11 +6,11 @@ mod sliced;
 mod tests;
 pub mod wordwise;
 
-pub use sliced::{pack_into, unpack_into, Answer};
+pub use sliced::{pack_into, unpack_into, UnpackAnswer};
 
 /// Both directions into a lent part.
-pub trait Form {
-    fn unpack_into(src: &[u8], dst: &mut [u8]) -> Answer;
+pub trait PackingForm {
+    fn unpack_into(src: &[u8], dst: &mut [u8]) -> UnpackAnswer;
     fn pack_into(src: &[u8], dst: &mut [u8]) -> Option<usize>;
 }
 
@@ -20,8 +20,8 @@ pub struct Ordinary;
 /// The word-wise form.
 pub struct Wordwise;
 
-impl Form for Ordinary {
-    fn unpack_into(src: &[u8], dst: &mut [u8]) -> Answer {
+impl PackingForm for Ordinary {
+    fn unpack_into(src: &[u8], dst: &mut [u8]) -> UnpackAnswer {
         unpack_into(src, dst)
     }
 
@@ -30,8 +30,8 @@ impl Form for Ordinary {
     }
 }
 
-impl Form for Wordwise {
-    fn unpack_into(src: &[u8], dst: &mut [u8]) -> Answer {
+impl PackingForm for Wordwise {
+    fn unpack_into(src: &[u8], dst: &mut [u8]) -> UnpackAnswer {
         wordwise::unpack_into(src, dst)
     }
 
@@ -44,22 +44,22 @@ impl Form for Wordwise {
 pub const ED: u8 = 0xED;
 
 /// The longest run that one code stands for.
-pub const LONGEST: usize = 255;
+pub const LONGEST_RUN: usize = 255;
 
 #[derive(Debug, Clone, PartialEq, Eq)]
-pub enum Unpacked {
+pub enum UnpackedBytes {
     Malformed,
     Bytes(Vec<u8>),
 }
 
 /// What the packed bytes stand for.
-pub fn unpacked(data: &[u8]) -> Unpacked {
+pub fn unpacked(data: &[u8]) -> UnpackedBytes {
     let mut out = Vec::new();
     let mut left = data;
     loop {
         left = match left {
-            [] => return Unpacked::Bytes(out),
-            [ED, ED] | [ED, ED, _] | [ED, ED, 0, ..] => return Unpacked::Malformed,
+            [] => return UnpackedBytes::Bytes(out),
+            [ED, ED] | [ED, ED, _] | [ED, ED, 0, ..] => return UnpackedBytes::Malformed,
             [ED, ED, count, byte, after @ ..] => {
                 out.extend(std::iter::repeat_n(*byte, usize::from(*count)));
                 after
@@ -79,7 +79,7 @@ pub fn packed(data: &[u8]) -> Vec<u8> {
     while let Some(&byte) = left.first() {
         let run = left
             .iter()
-            .take(LONGEST)
+            .take(LONGEST_RUN)
             .take_while(|b| **b == byte)
             .count();
         let taken = if (byte == ED && run >= 2) || run >= 5 {

@@ -11,7 +11,7 @@ use crate::machine::Machine;
 
 /// How the second program is asked to store the blocks.
 #[derive(Debug, Clone, Copy, PartialEq, Eq)]
-pub enum Storing {
+pub enum BlockStoring {
     /// Packed where that is shorter.
     Shorter,
     Packed,
@@ -23,7 +23,7 @@ pub struct Sample {
     pub name: String,
     /// The machine's name in the program that makes the files.
     pub kind: &'static str,
-    pub storing: Storing,
+    pub storing: BlockStoring,
     /// The answer of a reader.
     pub number: u32,
     /// What an accepting reader gets.

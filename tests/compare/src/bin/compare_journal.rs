@@ -5,7 +5,7 @@
 #[path = "../journal/mod.rs"]
 mod journal;
 
-use compare::calls::journal::Checker;
+use compare::calls::journal::JournalChecker;
 use compare::report::{Group, Outcome, Report};
 use journal::list_groups::with_log;
 use journal::{fault_groups, header_groups, order_groups, start_groups, step_groups, view_groups};
@@ -27,7 +27,7 @@ const LOGS: [(usize, u64); 8] = [
     (60_000, 500_000),
 ];
 
-type Run = fn(&mut Group, &mut Checker, &mut Rng) -> Outcome;
+type Run = fn(&mut Group, &mut JournalChecker, &mut Rng) -> Outcome;
 
 const GROUPS: [(&str, Run); 20] = [
     ("examples", |g, c, _| start_groups::examples(g, c)),
@@ -56,7 +56,7 @@ const GROUPS: [(&str, Run); 20] = [
 
 fn main() -> ExitCode {
     let mut report = Report::new(LEAST_CALLS);
-    let check = &mut Checker::new(1);
+    let check = &mut JournalChecker::new(1);
     let rng = &mut Rng::new(2);
     for (length, calls) in LOGS {
         let name = format!("lists with a log of {length} bytes");

@@ -7,7 +7,7 @@ mod looks;
 
 use compare::ffi_snapshot::version;
 use compare::report::{Group, Outcome, Report};
-use looks::checks::Checker;
+use looks::checks::LookChecker;
 use looks::groups;
 use reference::machine::Attachment::{self, Interface1, Mgt, None as Bare};
 use reference::machine::Model::{self, K128, K48};
@@ -26,7 +26,7 @@ const MACHINES: [(&str, (Model, Attachment)); 6] = [
     ("looks at a 128K with MGT", (K128, Mgt)),
 ];
 
-type Run = fn(&mut Group, &mut Checker, &mut Rng) -> Outcome;
+type Run = fn(&mut Group, &mut LookChecker, &mut Rng) -> Outcome;
 
 const GROUPS: [(&str, Run); 8] = [
     ("machines of the stored files", groups::stored),
@@ -52,7 +52,7 @@ fn version_is_told() -> Outcome {
 
 fn main() -> ExitCode {
     let mut report = Report::new(LEAST_CALLS);
-    let check = &mut Checker::new(1);
+    let check = &mut LookChecker::new(1);
     let rng = &mut Rng::new(2);
     report.fact("the version is the header file's", version_is_told());
     for (name, kind) in MACHINES {

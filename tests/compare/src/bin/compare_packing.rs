@@ -7,14 +7,14 @@ mod ffi_packing;
 mod packing;
 
 use compare::report::Report;
-use packing::checks::Checker;
+use packing::checks::PackingChecker;
 use packing::{general_groups, pack_groups, unpack_groups};
 use reference::memory::Rng;
 use std::process::ExitCode;
 
 fn main() -> ExitCode {
     let mut report = Report::new(1_000_000);
-    let check = &mut Checker::new(1);
+    let check = &mut PackingChecker::new(1);
     let rng = &mut Rng::new(2);
     report.group("examples P1 to P11", |g| general_groups::examples(g, check));
     report.group("unpack every short list", |g| {

@@ -12,7 +12,7 @@ use reference::machine::Attachment::{self, Interface1, Mgt, None as Bare};
 use reference::machine::Model::{self, K128, K48};
 use reference::memory::Rng;
 use std::process::ExitCode;
-use views::checks::Checker;
+use views::checks::ViewChecker;
 use views::groups;
 use views::sources::Sources;
 
@@ -30,7 +30,7 @@ const MACHINES: [(&str, (Model, Attachment)); 6] = [
 
 fn main() -> ExitCode {
     let mut report = Report::new(LEAST_CALLS);
-    let check = &mut Checker::new(1);
+    let check = &mut ViewChecker::new(1);
     let rng = &mut Rng::new(2);
     let sources = &Sources::new(3);
     report.fact("every page differs", sources.pages_differ());

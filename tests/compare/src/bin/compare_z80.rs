@@ -4,7 +4,7 @@
 #[path = "../z80/mod.rs"]
 mod z80;
 
-use compare::calls::files::Checker;
+use compare::calls::files::FileChecker;
 use compare::report::{Group, Outcome, Report};
 use std::process::ExitCode;
 use z80::maker::Maker;
@@ -13,7 +13,7 @@ use z80::{block_groups, fault_groups, header_groups, order_groups, write_groups}
 /// Generated files that a run must at least read.
 const LEAST_FILES: u64 = 200_000;
 
-type Run = fn(&mut Group, &mut Checker, &mut Maker) -> Outcome;
+type Run = fn(&mut Group, &mut FileChecker, &mut Maker) -> Outcome;
 
 const GROUPS: [(&str, Run); 23] = [
     ("examples", |g, c, _| header_groups::examples(g, c)),
@@ -47,7 +47,7 @@ const GROUPS: [(&str, Run); 23] = [
 
 fn main() -> ExitCode {
     let mut report = Report::new(LEAST_FILES);
-    let check = &mut Checker::new(1);
+    let check = &mut FileChecker::new(1);
     let maker = &mut Maker::new(2);
     for (name, run) in GROUPS {
         report.group(name, |group| run(group, check, maker));

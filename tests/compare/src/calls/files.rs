@@ -2,7 +2,7 @@
 
 use super::{answer, note, outcome};
 use crate::ffi_snapshot;
-use crate::lent::Lent;
+use crate::lent::LentPart;
 use crate::report::{hex, Group, Outcome};
 use reference::machine::HEADER;
 use reference::memory::{Rng, MEMORY};
@@ -10,34 +10,34 @@ use reference::z80::{read_bytes, write_bytes, LONGEST_FILE};
 use std::hint::black_box;
 
 /// One more than the highest number of the two calls.
-const NUMBERS: usize = 23;
+const FILE_NUMBERS: usize = 23;
 
 /// Makes every lent part dirty before a call and counts the answers given.
-pub struct Checker {
+pub struct FileChecker {
     pub fills: Rng,
-    area: Lent,
-    header: Lent,
-    out: Lent,
+    area: LentPart,
+    header: LentPart,
+    out: LentPart,
     memory: Vec<u8>,
     file: Vec<u8>,
-    pub reads: [u64; NUMBERS],
-    pub writes: [u64; NUMBERS],
+    pub reads: [u64; FILE_NUMBERS],
+    pub writes: [u64; FILE_NUMBERS],
     pub longest: usize,
     /// The length of the file that the last accepted read was written to.
     pub last_length: usize,
 }
 
-impl Checker {
-    pub fn new(seed: u64) -> Checker {
-        Checker {
+impl FileChecker {
+    pub fn new(seed: u64) -> FileChecker {
+        FileChecker {
             fills: Rng::new(seed),
-            area: Lent::new(MEMORY, 0),
-            header: Lent::new(HEADER, 0),
-            out: Lent::new(LONGEST_FILE, 0),
+            area: LentPart::new(MEMORY, 0),
+            header: LentPart::new(HEADER, 0),
+            out: LentPart::new(LONGEST_FILE, 0),
             memory: vec![0; MEMORY],
             file: vec![0; LONGEST_FILE],
-            reads: [0; NUMBERS],
-            writes: [0; NUMBERS],
+            reads: [0; FILE_NUMBERS],
+            writes: [0; FILE_NUMBERS],
             longest: 0,
             last_length: 0,
         }
@@ -72,7 +72,7 @@ impl Checker {
     }
 
     fn read_call(&mut self, file: &[u8], number: u32, memory: &[u8], machine: &[u8]) -> Outcome {
-        let source = Lent::holding(file, self.fills.word());
+        let source = LentPart::holding(file, self.fills.word());
         self.area.renew(memory.len(), self.fills.word());
         self.header.renew(machine.len(), self.fills.word());
         let (area, header) = (&mut self.area, &mut self.header);
@@ -127,7 +127,7 @@ impl Checker {
         let mut length = 0;
         let number = write_bytes(machine, memory, &mut file, &mut length);
         self.writes[number as usize] += 1;
-        let source = Lent::holding(machine, self.fills.word());
+        let source = LentPart::holding(machine, self.fills.word());
         self.area.renew(memory.len(), self.fills.word());
         self.area.part_mut().copy_from_slice(memory);
         self.out.renew(room, self.fills.word());

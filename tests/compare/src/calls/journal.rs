@@ -1,7 +1,7 @@
 //! One call on any header, area, log and numbers, compared with the rules.
 
 use super::library::Library;
-use super::seen::{Function, Seen};
+use super::seen::{CountedFunction, NumberCounts};
 use super::{answer, note, outcome};
 use crate::report::{hex, Group, Outcome};
 use reference::journal::{call, Buffers, Call, Step};
@@ -9,14 +9,14 @@ use reference::machine::HEADER;
 use reference::memory::MEMORY;
 
 /// Both sides of a comparison. A group changes what is lent, but the area only through the checker.
-pub struct Checker {
+pub struct JournalChecker {
     pub library: Library,
-    pub seen: Seen,
+    pub seen: NumberCounts,
     pub lent: Buffers,
 }
 
-impl Checker {
-    pub fn new(seed: u64) -> Checker {
+impl JournalChecker {
+    pub fn new(seed: u64) -> JournalChecker {
         let lent = Buffers {
             header: vec![0; HEADER],
             area: vec![0; MEMORY],
@@ -24,9 +24,9 @@ impl Checker {
             standing: 0,
             total: 0,
         };
-        Checker {
+        JournalChecker {
             library: Library::new(seed),
-            seen: Seen::default(),
+            seen: NumberCounts::default(),
             lent,
         }
     }
@@ -52,7 +52,7 @@ impl Checker {
         self.lent.log = vec![0; length];
         (self.lent.standing, self.lent.total) = (0, 0);
         let given = self.library.start(length);
-        self.seen.add(Function::Start, given);
+        self.seen.add(CountedFunction::Start, given);
         let mut wrong = Vec::new();
         answer(&mut wrong, given, 0);
         let log = self.library.log.difference(&self.lent.log);
@@ -71,7 +71,7 @@ impl Checker {
         let (header, log) = (before.header.clone(), before.log.clone());
         let number = call(&mut self.lent, asked);
         let given = library.call(asked);
-        self.seen.add(Function::of(asked), given);
+        self.seen.add(CountedFunction::of(asked), given);
         let mut wrong = Vec::new();
         answer(&mut wrong, given, number);
         wrong.extend(library.differences(&self.lent));

@@ -1,8 +1,8 @@
 //! The library's side of a comparison: everything lent lies between guards.
 
 use super::note;
-use crate::ffi_snapshot::{self as ffi, Session};
-use crate::lent::Lent;
+use crate::ffi_snapshot::{self as ffi, LogBuffers};
+use crate::lent::LentPart;
 use reference::journal::{Buffers, Call, Correction, Replay};
 use reference::machine;
 use reference::memory::Rng;
@@ -10,9 +10,9 @@ use std::hint::black_box;
 
 pub struct Library {
     pub fills: Rng,
-    pub header: Lent,
-    pub area: Lent,
-    pub log: Lent,
+    pub header: LentPart,
+    pub area: LentPart,
+    pub log: LentPart,
     /// Standing and total, each between two cells that must stay.
     cells: [u64; 5],
     guard: u64,
@@ -22,9 +22,9 @@ impl Library {
     pub fn new(seed: u64) -> Library {
         Library {
             fills: Rng::new(seed),
-            header: Lent::new(0, 0),
-            area: Lent::new(0, 0),
-            log: Lent::new(0, 0),
+            header: LentPart::new(0, 0),
+            area: LentPart::new(0, 0),
+            log: LentPart::new(0, 0),
             cells: [0; 5],
             guard: 0,
         }
@@ -53,7 +53,7 @@ impl Library {
 
     pub fn call(&mut self, call: Call) -> u32 {
         let [_, standing, _, total, _] = &mut self.cells;
-        let lent = Session {
+        let lent = LogBuffers {
             header: self.header.part_mut(),
             area: self.area.part_mut(),
             log: self.log.part_mut(),
@@ -109,7 +109,7 @@ impl Library {
     }
 }
 
-fn hold(lent: &mut Lent, bytes: &[u8], fill: u64) {
+fn hold(lent: &mut LentPart, bytes: &[u8], fill: u64) {
     lent.renew(bytes.len(), fill);
     lent.part_mut().copy_from_slice(bytes);
 }

@@ -7,7 +7,7 @@ use reference::journal::{Call, Correction};
 pub const NUMBERS: usize = 33;
 
 #[derive(Clone, Copy, PartialEq, Eq)]
-pub enum Function {
+pub enum CountedFunction {
     Start,
     View,
     Byte,
@@ -17,44 +17,44 @@ pub enum Function {
     Redo,
 }
 
-impl Function {
-    pub fn of(call: Call) -> Function {
+impl CountedFunction {
+    pub fn of(call: Call) -> CountedFunction {
         match call {
-            Call::Correct(Correction::Byte { .. }) => Function::Byte,
-            Call::Correct(Correction::Pair { .. }) => Function::Pair,
-            Call::Correct(Correction::Out { .. }) => Function::Out,
-            Call::Undo => Function::Undo,
-            Call::Redo => Function::Redo,
+            Call::Correct(Correction::Byte { .. }) => CountedFunction::Byte,
+            Call::Correct(Correction::Pair { .. }) => CountedFunction::Pair,
+            Call::Correct(Correction::Out { .. }) => CountedFunction::Out,
+            Call::Undo => CountedFunction::Undo,
+            Call::Redo => CountedFunction::Redo,
         }
     }
 }
 
 /// Every number of each function.
-const EXPECTED: [(Function, &str, &[usize]); 7] = [
-    (Function::Start, "start", &[0]),
-    (Function::View, "view", &[0, 20, 21, 30, 31]),
-    (Function::Byte, "byte", &[0, 20, 21, 23, 26, 29]),
-    (Function::Pair, "pair", &[0, 20, 21, 26, 29, 32]),
-    (Function::Out, "out", &[0, 20, 21, 24, 25, 26, 29]),
-    (Function::Undo, "undo", &[0, 20, 21, 27, 28, 29]),
-    (Function::Redo, "redo", &[0, 20, 21, 27, 28, 29]),
+const EXPECTED: [(CountedFunction, &str, &[usize]); 7] = [
+    (CountedFunction::Start, "start", &[0]),
+    (CountedFunction::View, "view", &[0, 20, 21, 30, 31]),
+    (CountedFunction::Byte, "byte", &[0, 20, 21, 23, 26, 29]),
+    (CountedFunction::Pair, "pair", &[0, 20, 21, 26, 29, 32]),
+    (CountedFunction::Out, "out", &[0, 20, 21, 24, 25, 26, 29]),
+    (CountedFunction::Undo, "undo", &[0, 20, 21, 27, 28, 29]),
+    (CountedFunction::Redo, "redo", &[0, 20, 21, 27, 28, 29]),
 ];
 
-pub struct Seen {
+pub struct NumberCounts {
     counts: [[u64; NUMBERS]; 7],
 }
 
-impl Default for Seen {
-    fn default() -> Seen {
-        Seen {
+impl Default for NumberCounts {
+    fn default() -> NumberCounts {
+        NumberCounts {
             counts: [[0; NUMBERS]; 7],
         }
     }
 }
 
-impl Seen {
+impl NumberCounts {
     /// Counts an answer of the library; one that is no number at all is told elsewhere.
-    pub fn add(&mut self, function: Function, number: u32) {
+    pub fn add(&mut self, function: CountedFunction, number: u32) {
         if let Some(count) = self.counts[function as usize].get_mut(number as usize) {
             *count += 1;
         }

@@ -1,9 +1,9 @@
 //! A view of a page.
 
-use super::seen::{Function, Seen};
+use super::seen::{CountedFunction, NumberCounts};
 use super::{answer, outcome};
 use crate::ffi_snapshot::{self as ffi, Viewed};
-use crate::lent::Lent;
+use crate::lent::LentPart;
 use reference::journal::{view, View};
 use std::hint::black_box;
 
@@ -12,10 +12,10 @@ const DIRTY: (u8, u64) = (0xA5, 0xA5A5_5A5A_A5A5_5A5A);
 
 /// One view, its three numbers between cells that must stay; its answer.
 pub fn call(
-    seen: &mut Seen,
-    header: &Lent,
-    rom: &Lent,
-    area: &Lent,
+    seen: &mut NumberCounts,
+    header: &LentPart,
+    rom: &LentPart,
+    area: &LentPart,
     page: u8,
 ) -> Result<u32, String> {
     let (rom_length, area_length) = (rom.part().len(), area.part().len());
@@ -28,7 +28,7 @@ pub fn call(
     };
     let [_, start, _, length, _] = &mut cells;
     let given = ffi::view(from, page, &mut small[1], start, length);
-    seen.add(Function::View, given);
+    seen.add(CountedFunction::View, given);
     let (small, cells) = (black_box(small), black_box(cells));
     let part = View {
         in_rom: small[1],

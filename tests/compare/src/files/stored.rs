@@ -1,7 +1,7 @@
 //! Stored files: the library reads what went in, or gives the expected number.
 
 use compare::ffi_snapshot;
-use compare::lent::Lent;
+use compare::lent::LentPart;
 use compare::report::{Group, Outcome};
 use reference::machine::{header, Machine, HEADER};
 use reference::memory::MEMORY;
@@ -32,10 +32,10 @@ pub fn table(dir: &Path, samples: &[Sample]) -> Outcome {
     Ok(())
 }
 
-type Read = fn(&[u8], &mut [u8], &mut [u8]) -> u32;
+type ReadCall = fn(&[u8], &mut [u8], &mut [u8]) -> u32;
 
 /// Both readers, each with how its buffers are dirty before.
-const READERS: [(&str, Read, u64); 2] = [
+const COMPARED_READERS: [(&str, ReadCall, u64); 2] = [
     ("library", ffi_snapshot::read, 5),
     ("reference", read_bytes, 7),
 ];
@@ -48,8 +48,8 @@ pub fn read(group: &mut Group, dir: &Path, sample: &Sample) -> Outcome {
         0 => (sample.memory.clone(), header(&sample.machine)),
         _ => (vec![0; MEMORY], header(&Machine::blank())),
     };
-    for (who, read, fill) in READERS {
-        let (mut area, mut bytes) = (Lent::new(MEMORY, fill), Lent::new(HEADER, fill + 1));
+    for (who, read, fill) in COMPARED_READERS {
+        let (mut area, mut bytes) = (LentPart::new(MEMORY, fill), LentPart::new(HEADER, fill + 1));
         let number = read(&file, area.part_mut(), bytes.part_mut());
         if number != sample.number {
             return Err(format!("{who} answers {number}"));

@@ -5,7 +5,7 @@ use super::stored::text;
 use compare::ffi_snapshot;
 use compare::report::Outcome;
 use reference::machine::{header, HEADER};
-use reference::samples::{settings, Sample, Storing};
+use reference::samples::{settings, BlockStoring, Sample};
 use reference::z80::{write, LONGEST_FILE};
 use std::fs;
 use std::path::Path;
@@ -15,7 +15,7 @@ pub fn all(out: &Path, dir: &Path, samples: &[Sample]) -> Outcome {
     fs::create_dir_all(out).map_err(text)?;
     for sample in samples.iter().filter(|sample| sample.number == 0) {
         let file = written(sample).map_err(|what| format!("{}: {what}", sample.name))?;
-        if sample.storing == Storing::Shorter {
+        if sample.storing == BlockStoring::Shorter {
             same_blocks(dir, sample, &file)?;
         }
         let put =

@@ -1,6 +1,6 @@
 //! Invented logs: a good step where the next undo or redo looks, anything elsewhere.
 
-use compare::calls::journal::Checker;
+use compare::calls::journal::JournalChecker;
 use compare::machines::header;
 use reference::journal::{capacity, Call, Correction, Step, LOCK, STEP};
 use reference::machine::{owns, Model, PAIRS};
@@ -44,7 +44,7 @@ pub fn tags(model: Model) -> &'static [u8] {
 }
 
 /// A random machine, a dirty log of this length and numbers that both moves may follow.
-pub fn lend(check: &mut Checker, rng: &mut Rng, model: Model, log_length: usize) {
+pub fn lend(check: &mut JournalChecker, rng: &mut Rng, model: Model, log_length: usize) {
     check.lent.header = header(rng, model);
     if model == Model::K128 && rng.once_in(2) {
         check.lent.header[35] |= LOCK;
@@ -56,7 +56,7 @@ pub fn lend(check: &mut Checker, rng: &mut Rng, model: Model, log_length: usize)
 }
 
 /// Numbers with which the move finds a step.
-pub fn ready(check: &mut Checker, rng: &mut Rng, asked: Call) {
+pub fn ready(check: &mut JournalChecker, rng: &mut Rng, asked: Call) {
     let total = check.lent.total as usize;
     let before = rng.below(total) as u64;
     check.lent.standing = match asked {
@@ -66,7 +66,7 @@ pub fn ready(check: &mut Checker, rng: &mut Rng, asked: Call) {
 }
 
 /// The place in the log of the step that a move looks at.
-pub fn place(check: &Checker, asked: Call) -> usize {
+pub fn place(check: &JournalChecker, asked: Call) -> usize {
     let number = match asked {
         Call::Undo => check.lent.standing.wrapping_sub(1),
         _ => check.lent.standing,
@@ -75,7 +75,7 @@ pub fn place(check: &Checker, asked: Call) -> usize {
 }
 
 /// Writes a step where the move looks.
-pub fn write(check: &mut Checker, asked: Call, step: &Step) {
+pub fn write(check: &mut JournalChecker, asked: Call, step: &Step) {
     let at = place(check, asked);
     check.lent.log[at..at + STEP].copy_from_slice(&step.bytes());
 }
@@ -89,7 +89,7 @@ pub fn needed(asked: Call, step: &Step) -> u16 {
 }
 
 /// Makes present what a damaged step needs, where it names a byte of the area or a pair at all.
-pub fn fit(check: &mut Checker, asked: Call, step: &Step) {
+pub fn fit(check: &mut JournalChecker, asked: Call, step: &Step) {
     let place = usize::from(step.index) * PAGE + usize::from(step.offset);
     let is_place = match step.tag {
         1 => place < MEMORY,
@@ -102,7 +102,7 @@ pub fn fit(check: &mut Checker, asked: Call, step: &Step) {
 }
 
 /// A machine, a log and numbers with a good step for the move, and the step.
-pub fn good(check: &mut Checker, rng: &mut Rng, model: Model, tag: u8, asked: Call) -> Step {
+pub fn good(check: &mut JournalChecker, rng: &mut Rng, model: Model, tag: u8, asked: Call) -> Step {
     let length = rng.pick(&[11, 22, 40, 110]);
     lend(check, rng, model, length);
     ready(check, rng, asked);
@@ -113,7 +113,7 @@ pub fn good(check: &mut Checker, rng: &mut Rng, model: Model, tag: u8, asked: Ca
 }
 
 /// A random area for a group.
-pub fn area(check: &mut Checker, rng: &mut Rng) {
+pub fn area(check: &mut JournalChecker, rng: &mut Rng) {
     check.lend_area(rng.bytes(MEMORY));
 }
 

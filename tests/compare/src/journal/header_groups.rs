@@ -1,7 +1,7 @@
 //! Groups with headers that our writer makes or does not make.
 
 use super::forge::{self, MODELS, MOVES};
-use compare::calls::journal::Checker;
+use compare::calls::journal::JournalChecker;
 use compare::machines::header;
 use compare::report::{Group, Outcome};
 use reference::journal::Call;
@@ -16,7 +16,7 @@ fn calls(rng: &mut Rng) -> Vec<Call> {
 }
 
 /// Every value of every header byte, all calls.
-pub fn every_byte(group: &mut Group, check: &mut Checker, rng: &mut Rng) -> Outcome {
+pub fn every_byte(group: &mut Group, check: &mut JournalChecker, rng: &mut Rng) -> Outcome {
     forge::area(check, rng);
     for model in MODELS {
         for at in 0..HEADER {
@@ -33,7 +33,7 @@ pub fn every_byte(group: &mut Group, check: &mut Checker, rng: &mut Rng) -> Outc
 }
 
 /// Headers with some bytes changed, and random bytes.
-pub fn changed(group: &mut Group, check: &mut Checker, rng: &mut Rng) -> Outcome {
+pub fn changed(group: &mut Group, check: &mut JournalChecker, rng: &mut Rng) -> Outcome {
     forge::area(check, rng);
     for case in 0..8_000 {
         for asked in calls(rng) {

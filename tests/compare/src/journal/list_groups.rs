@@ -1,9 +1,9 @@
 //! Lists of calls against the model, which never sees a log byte.
 
 use super::lists::Lister;
-use compare::calls::journal::Checker;
+use compare::calls::journal::JournalChecker;
 use compare::calls::library::Library;
-use compare::calls::seen::Function;
+use compare::calls::seen::CountedFunction;
 use compare::calls::{answer, note, outcome};
 use compare::machines::machine;
 use compare::report::{hex, Group, Outcome};
@@ -12,7 +12,7 @@ use reference::machine::{header, page_at, Model, PAIRS};
 use reference::memory::{Rng, MEMORY, PAGE};
 
 /// The most calls of a list.
-const LONGEST: usize = 5_000;
+const MOST_CALLS: usize = 5_000;
 
 /// Whole buffers are compared once in this many calls.
 const WHOLE: usize = 64;
@@ -21,7 +21,7 @@ const WHOLE: usize = 64;
 const AFRESH: usize = 1_000;
 
 /// One list: the library, the model, and what the log must be.
-struct Run<'a> {
+struct ListRun<'a> {
     library: &'a mut Library,
     model: Replay,
     log: Vec<u8>,
@@ -30,7 +30,7 @@ struct Run<'a> {
 /// Lists on both models with a log of this length, until there are enough calls.
 pub fn with_log(
     group: &mut Group,
-    check: &mut Checker,
+    check: &mut JournalChecker,
     rng: &mut Rng,
     log_length: usize,
     calls: u64,
@@ -52,7 +52,7 @@ pub fn with_log(
 /// One list, and the most corrections that stood in it.
 fn one_list(
     group: &mut Group,
-    check: &mut Checker,
+    check: &mut JournalChecker,
     rng: &mut Rng,
     log_length: usize,
     model: Model,
@@ -62,20 +62,20 @@ fn one_list(
         .pick(&[0, 10, room / 2, room - room / 8, room])
         .min(room);
     let length = match first > 1_000 || rng.once_in(3) {
-        true => LONGEST,
-        false => rng.below(LONGEST),
+        true => MOST_CALLS,
+        false => rng.below(MOST_CALLS),
     };
     let longest = rng.pick(&[3, 30, 300, 3_000]);
-    let Checker { library, seen, .. } = check;
-    let mut run = Run::start(library, rng, log_length, model)?;
-    seen.add(Function::Start, 0);
+    let JournalChecker { library, seen, .. } = check;
+    let mut run = ListRun::start(library, rng, log_length, model)?;
+    seen.add(CountedFunction::Start, 0);
     let mut lister = Lister::new(rng, first, longest);
     let mut depth = 0;
     for number in 0..length {
         let call = lister.next(&run.model);
         let given = run.call(number, call);
         let given = given.map_err(|what| format!("call {number}, {call:02X?}: {what}"))?;
-        seen.add(Function::of(call), given);
+        seen.add(CountedFunction::of(call), given);
         group.inputs += 1;
         depth = depth.max(run.model.standing());
     }
@@ -83,19 +83,19 @@ fn one_list(
     Ok(depth)
 }
 
-impl Run<'_> {
+impl ListRun<'_> {
     /// A random machine and memory with a started log.
     fn start<'a>(
         library: &'a mut Library,
         rng: &mut Rng,
         log_length: usize,
         model: Model,
-    ) -> Result<Run<'a>, String> {
+    ) -> Result<ListRun<'a>, String> {
         let (machine, memory) = (machine(rng, model), rng.bytes(MEMORY));
         library.lend(&header(&machine), &[], 0, 0);
         library.lend_area(&memory);
         let given = library.start(log_length);
-        let run = Run {
+        let run = ListRun {
             library,
             model: Replay::new(machine, memory, log_length),
             log: vec![0; log_length],

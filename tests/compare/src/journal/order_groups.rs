@@ -1,7 +1,7 @@
 //! Groups with several faults at once, where the first number of the order is given, and invented numbers.
 
 use super::forge::{self, MODELS, MOVES};
-use compare::calls::journal::Checker;
+use compare::calls::journal::JournalChecker;
 use compare::choice::Choice;
 use compare::machines::header;
 use compare::report::{Group, Outcome};
@@ -10,7 +10,7 @@ use reference::machine::{Model, HEADER};
 use reference::memory::{Rng, MEMORY};
 
 /// Every choice of faults of a correction, on both models.
-pub fn corrections(group: &mut Group, check: &mut Checker, rng: &mut Rng) -> Outcome {
+pub fn corrections(group: &mut Group, check: &mut JournalChecker, rng: &mut Rng) -> Outcome {
     for (model, own) in [
         (Model::K48, 23),
         (Model::K48, 32),
@@ -62,7 +62,7 @@ fn correction(rng: &mut Rng, own: u32, is_faulty: bool) -> Call {
 }
 
 /// Numbers that are out of order, that fill the log, both at once as far as that goes, or neither.
-fn numbers(check: &mut Checker, rng: &mut Rng, out_of_order: bool, full: bool) {
+fn numbers(check: &mut JournalChecker, rng: &mut Rng, out_of_order: bool, full: bool) {
     let room = capacity(check.lent.log.len());
     let lent = &mut check.lent;
     (lent.standing, lent.total) = match (out_of_order, full) {
@@ -74,7 +74,7 @@ fn numbers(check: &mut Checker, rng: &mut Rng, out_of_order: bool, full: bool) {
 }
 
 /// A header that no writer makes, an area of another length.
-fn common(check: &mut Checker, rng: &mut Rng, bad_header: bool, bad_area: bool) {
+fn common(check: &mut JournalChecker, rng: &mut Rng, bad_header: bool, bad_area: bool) {
     if bad_header {
         let header = &mut check.lent.header;
         match rng.below(4) {
@@ -91,7 +91,7 @@ fn common(check: &mut Checker, rng: &mut Rng, bad_header: bool, bad_area: bool) 
 }
 
 /// Every choice of faults of an undo and of a redo.
-pub fn moves(group: &mut Group, check: &mut Checker, rng: &mut Rng) -> Outcome {
+pub fn moves(group: &mut Group, check: &mut JournalChecker, rng: &mut Rng) -> Outcome {
     for case in 0..32 * 60 {
         let choice = Choice {
             order: &[20, 21, 29, 27, 28],
@@ -120,7 +120,7 @@ pub fn moves(group: &mut Group, check: &mut Checker, rng: &mut Rng) -> Outcome {
 }
 
 /// Numbers out of order, with nothing to undo or to redo if that is asked for.
-fn out_of_order(check: &mut Checker, rng: &mut Rng, asked: Call, nothing: bool) {
+fn out_of_order(check: &mut JournalChecker, rng: &mut Rng, asked: Call, nothing: bool) {
     let lent = &mut check.lent;
     let room = capacity(lent.log.len());
     match (asked, nothing) {
@@ -131,7 +131,7 @@ fn out_of_order(check: &mut Checker, rng: &mut Rng, asked: Call, nothing: bool) 
 }
 
 /// Numbers around every bound with logs of many lengths, all calls.
-pub fn invented_numbers(group: &mut Group, check: &mut Checker, rng: &mut Rng) -> Outcome {
+pub fn invented_numbers(group: &mut Group, check: &mut JournalChecker, rng: &mut Rng) -> Outcome {
     forge::area(check, rng);
     let lengths = [
         0, 10, 11, 12, 21, 22, 110, 45_045, 45_055, 45_056, 45_057, 45_067, 60_000,
@@ -163,7 +163,7 @@ fn around(room: u64) -> Vec<u64> {
 /// Every call on a log of good steps with these numbers.
 fn calls_with(
     group: &mut Group,
-    check: &mut Checker,
+    check: &mut JournalChecker,
     rng: &mut Rng,
     length: usize,
     (standing, total): (u64, u64),
@@ -192,7 +192,7 @@ fn calls_with(
 }
 
 /// Headers and areas of other lengths in every combination, all calls.
-pub fn buffers(group: &mut Group, check: &mut Checker, rng: &mut Rng) -> Outcome {
+pub fn buffers(group: &mut Group, check: &mut JournalChecker, rng: &mut Rng) -> Outcome {
     for model in MODELS {
         for area in [0, 1, 16_384, MEMORY - 1, MEMORY, MEMORY + 1, 2 * MEMORY] {
             check.lend_area(rng.bytes(area));

@@ -1,13 +1,13 @@
 //! Groups that start a log, and the examples of the rules.
 
-use compare::calls::journal::Checker;
+use compare::calls::journal::JournalChecker;
 use compare::report::{Group, Outcome};
 use reference::journal::{Call, Correction};
 use reference::machine::{header, Machine, Model};
 use reference::memory::{MEMORY, PAGE};
 
 /// Dirty logs of many lengths: all zero, and both numbers 0.
-pub fn lengths(group: &mut Group, check: &mut Checker) -> Outcome {
+pub fn lengths(group: &mut Group, check: &mut JournalChecker) -> Outcome {
     let long = [
         4_096, 45_045, 45_055, 45_056, 45_057, 45_067, 60_000, 131_072, 1_000_000,
     ];
@@ -23,7 +23,7 @@ fn byte(address: u16, value: u8) -> Call {
     Call::Correct(Correction::Byte { address, value })
 }
 
-fn lend(check: &mut Checker, model: Model, last_out: u8, log_length: usize) {
+fn lend(check: &mut JournalChecker, model: Model, last_out: u8, log_length: usize) {
     let machine = Machine {
         model,
         paging: last_out,
@@ -36,7 +36,7 @@ fn lend(check: &mut Checker, model: Model, last_out: u8, log_length: usize) {
 }
 
 /// Logs of 10 and 11 bytes, and an undo after another page was paged in.
-pub fn examples(group: &mut Group, check: &mut Checker) -> Outcome {
+pub fn examples(group: &mut Group, check: &mut JournalChecker) -> Outcome {
     for model in [Model::K48, Model::K128] {
         lend(check, model, 0, 10);
         check.expect(group, byte(0x4000, 1), 26)?;

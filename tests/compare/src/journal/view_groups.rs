@@ -1,8 +1,8 @@
 //! Groups that view a page.
 
-use compare::calls::journal::Checker;
+use compare::calls::journal::JournalChecker;
 use compare::calls::{note, outcome, view};
-use compare::lent::Lent;
+use compare::lent::LentPart;
 use compare::machines::header;
 use compare::report::{Group, Outcome};
 use reference::machine::{Model, HEADER};
@@ -27,14 +27,14 @@ const ROMS: [usize; 13] = [
 const AREAS: [usize; 7] = [0, 1, PAGE, MEMORY - 1, MEMORY, MEMORY + 1, 2 * MEMORY];
 
 /// Every page with every length of ROM and area, both models and headers of other kinds.
-pub fn every_page(group: &mut Group, check: &mut Checker, rng: &mut Rng) -> Outcome {
+pub fn every_page(group: &mut Group, check: &mut JournalChecker, rng: &mut Rng) -> Outcome {
     for rom in ROMS {
         for area in AREAS {
-            let rom = Lent::holding(&rng.bytes(rom), rng.word());
-            let area = Lent::holding(&rng.bytes(area), rng.word());
+            let rom = LentPart::holding(&rng.bytes(rom), rng.word());
+            let area = LentPart::holding(&rng.bytes(area), rng.word());
             let (rom_before, area_before) = (rom.part().to_vec(), area.part().to_vec());
             for bytes in headers(rng) {
-                let bytes_lent = Lent::holding(&bytes, rng.word());
+                let bytes_lent = LentPart::holding(&bytes, rng.word());
                 for page in 0..=255 {
                     group.inputs += 1;
                     view::call(&mut check.seen, &bytes_lent, &rom, &area, page)?;
@@ -67,15 +67,15 @@ fn headers(rng: &mut Rng) -> Vec<Vec<u8>> {
 }
 
 /// Every value of every header byte, each with some pages.
-pub fn every_header_byte(group: &mut Group, check: &mut Checker, rng: &mut Rng) -> Outcome {
-    let area = Lent::new(MEMORY, rng.word());
+pub fn every_header_byte(group: &mut Group, check: &mut JournalChecker, rng: &mut Rng) -> Outcome {
+    let area = LentPart::new(MEMORY, rng.word());
     for (model, rom) in [(Model::K48, PAGE), (Model::K128, 2 * PAGE)] {
-        let rom = Lent::new(rom, rng.word());
+        let rom = LentPart::new(rom, rng.word());
         for at in 0..HEADER {
             for value in 0..=255 {
                 let mut bytes = header(rng, model);
                 bytes[at] = value;
-                let bytes = Lent::holding(&bytes, rng.word());
+                let bytes = LentPart::holding(&bytes, rng.word());
                 for page in [0, 1, 8, 9, rng.byte()] {
                     group.inputs += 1;
                     view::call(&mut check.seen, &bytes, &rom, &area, page)?;

@@ -1,9 +1,9 @@
 //! One look at a machine by the library, compared with the reference: the number, every figure and what lies beside it.
 
-use super::seen::{Look, Seen};
+use super::seen::{Look, LookCounts};
 use compare::calls::{answer, note, outcome};
 use compare::ffi_snapshot as ffi;
-use compare::lent::Lent;
+use compare::lent::LentPart;
 use compare::report::{hex, Group, Outcome};
 use reference::machine::looks;
 use reference::memory::Rng;
@@ -11,39 +11,39 @@ use std::fmt::Debug;
 use std::hint::black_box;
 
 /// Two bytes that a call sets, at 1 and 3, between cells that must stay.
-type Bytes = [u8; 5];
+type ByteCells = [u8; 5];
 
 /// A word that a call sets, at 1, between cells that must stay.
-type Words = [u16; 3];
+type WordCells = [u16; 3];
 
 /// A header between guards, and a copy of it that no call sees.
-pub struct Looked {
+pub struct LentHeader {
     bytes: Vec<u8>,
-    lent: Lent,
+    lent: LentPart,
 }
 
 /// Makes the figures dirty before every call, and counts what was answered.
-pub struct Checker {
+pub struct LookChecker {
     fills: Rng,
-    pub seen: Seen,
+    pub seen: LookCounts,
 }
 
-impl Checker {
-    pub fn new(seed: u64) -> Checker {
-        Checker {
+impl LookChecker {
+    pub fn new(seed: u64) -> LookChecker {
+        LookChecker {
             fills: Rng::new(seed),
-            seen: Seen::default(),
+            seen: LookCounts::default(),
         }
     }
 
-    pub fn lend(&mut self, header: &[u8]) -> Looked {
-        Looked {
+    pub fn lend(&mut self, header: &[u8]) -> LentHeader {
+        LentHeader {
             bytes: header.to_vec(),
-            lent: Lent::holding(header, self.fills.word()),
+            lent: LentPart::holding(header, self.fills.word()),
         }
     }
 
-    pub fn model(&mut self, group: &mut Group, at: &Looked) -> Outcome {
+    pub fn model(&mut self, group: &mut Group, at: &LentHeader) -> Outcome {
         group.inputs += 1;
         let (number, kind) = looks::kind(&at.bytes);
         let (mut bytes, due) = self.bytes([kind.model, kind.attachment]);
@@ -57,7 +57,7 @@ impl Checker {
         outcome(wrong).map_err(|what| at.tell("model", what))
     }
 
-    pub fn pair(&mut self, group: &mut Group, at: &Looked, pair: u8) -> Outcome {
+    pub fn pair(&mut self, group: &mut Group, at: &LentHeader, pair: u8) -> Outcome {
         group.inputs += 1;
         let (number, value) = looks::pair(&at.bytes, pair);
         let (mut words, due) = self.words(value);
@@ -69,7 +69,7 @@ impl Checker {
         outcome(wrong).map_err(|what| at.tell(&format!("pair {pair}"), what))
     }
 
-    pub fn place(&mut self, group: &mut Group, at: &Looked, address: u16) -> Outcome {
+    pub fn place(&mut self, group: &mut Group, at: &LentHeader, address: u16) -> Outcome {
         group.inputs += 1;
         let (number, place) = looks::location(&at.bytes, address);
         let (mut bytes, due_bytes) = self.bytes([place.in_rom, place.page]);
@@ -86,7 +86,7 @@ impl Checker {
     }
 
     /// Two bytes to lend, each another one than it should be after the call, and all cells as they should be then.
-    fn bytes(&mut self, due: [u8; 2]) -> (Bytes, Bytes) {
+    fn bytes(&mut self, due: [u8; 2]) -> (ByteCells, ByteCells) {
         let [a, b, c, first, second, ..] = self.fills.word().to_le_bytes();
         let other = [first.max(1) ^ due[0], second.max(1) ^ due[1]];
         let cells = |figures: [u8; 2]| [a, figures[0], b, figures[1], c];
@@ -94,7 +94,7 @@ impl Checker {
     }
 
     /// The same of a word, other in both its bytes.
-    fn words(&mut self, due: u16) -> (Words, Words) {
+    fn words(&mut self, due: u16) -> (WordCells, WordCells) {
         let [a, b, c, d, low, high, ..] = self.fills.word().to_le_bytes();
         let other = due ^ u16::from_le_bytes([low.max(1), high.max(1)]);
         let [before, after] = [[a, b], [c, d]].map(u16::from_le_bytes);
@@ -110,7 +110,7 @@ fn figures<T: Debug + PartialEq>(wrong: &mut Vec<String>, name: &str, given: T, 
     }
 }
 
-impl Looked {
+impl LentHeader {
     /// No call has changed the header or what lies beside it.
     pub fn unchanged(&self) -> Outcome {
         let mut wrong = Vec::new();

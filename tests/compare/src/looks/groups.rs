@@ -1,7 +1,7 @@
 //! The groups of the comparison.
 
-use super::checks::Checker;
-use super::headers::{addresses, borders, every_pair, of_kind, ours, KINDS};
+use super::checks::LookChecker;
+use super::headers::{addresses, borders, every_pair, of_kind, ours, MACHINE_KINDS};
 use compare::report::{Group, Outcome};
 use reference::machine::{header, Attachment, Machine, Model, HEADER, PAIRS};
 use reference::memory::Rng;
@@ -10,7 +10,7 @@ use reference::samples::samples;
 /// The model, these pairs and these addresses of a header.
 fn look(
     group: &mut Group,
-    check: &mut Checker,
+    check: &mut LookChecker,
     header: &[u8],
     pairs: &[u8],
     addresses: &[u16],
@@ -29,7 +29,7 @@ fn look(
 /// Random machines of one kind, every pair number and many addresses.
 pub fn machines(
     group: &mut Group,
-    check: &mut Checker,
+    check: &mut LookChecker,
     rng: &mut Rng,
     kind: (Model, Attachment),
 ) -> Outcome {
@@ -41,7 +41,7 @@ pub fn machines(
 }
 
 /// The blank machine, and those of the stored files.
-pub fn stored(group: &mut Group, check: &mut Checker, rng: &mut Rng) -> Outcome {
+pub fn stored(group: &mut Group, check: &mut LookChecker, rng: &mut Rng) -> Outcome {
     let blank = [Machine::blank()].into_iter();
     for machine in blank.chain(samples().into_iter().map(|sample| sample.machine)) {
         let bytes = header(&machine);
@@ -51,9 +51,9 @@ pub fn stored(group: &mut Group, check: &mut Checker, rng: &mut Rng) -> Outcome 
 }
 
 /// Every address of machines of every kind and with every page at C000, and of headers that are refused.
-pub fn every_address(group: &mut Group, check: &mut Checker, rng: &mut Rng) -> Outcome {
+pub fn every_address(group: &mut Group, check: &mut LookChecker, rng: &mut Rng) -> Outcome {
     let all: Vec<u16> = (0..=0xFFFF).collect();
-    for kind in KINDS {
+    for kind in MACHINE_KINDS {
         let pages = if kind.0 == Model::K48 { 1 } else { 8 };
         for page in 0..pages {
             let mut machine = of_kind(rng, kind);
@@ -68,8 +68,8 @@ pub fn every_address(group: &mut Group, check: &mut Checker, rng: &mut Rng) -> O
 }
 
 /// Every last OUT to 7FFD; on a 48K all but 0 are refused.
-pub fn every_last_out(group: &mut Group, check: &mut Checker, rng: &mut Rng) -> Outcome {
-    for kind in KINDS {
+pub fn every_last_out(group: &mut Group, check: &mut LookChecker, rng: &mut Rng) -> Outcome {
+    for kind in MACHINE_KINDS {
         for last_out in 0..=255 {
             let mut bytes = ours(rng, kind);
             bytes[35] = last_out;
@@ -80,9 +80,9 @@ pub fn every_last_out(group: &mut Group, check: &mut Checker, rng: &mut Rng) -> 
 }
 
 /// Every value of every pair; now and then all pairs, as the others must stay.
-pub fn every_value(group: &mut Group, check: &mut Checker, rng: &mut Rng) -> Outcome {
+pub fn every_value(group: &mut Group, check: &mut LookChecker, rng: &mut Rng) -> Outcome {
     for pair in 0..PAIRS {
-        let kind = rng.pick(&KINDS);
+        let kind = rng.pick(&MACHINE_KINDS);
         let mut machine = of_kind(rng, kind);
         for value in 0..=0xFFFF {
             machine.put_pair(pair, value);
@@ -97,8 +97,8 @@ pub fn every_value(group: &mut Group, check: &mut Checker, rng: &mut Rng) -> Out
 }
 
 /// Every single bit of headers of every kind changed.
-pub fn every_bit(group: &mut Group, check: &mut Checker, rng: &mut Rng) -> Outcome {
-    let random = KINDS.map(|kind| ours(rng, kind));
+pub fn every_bit(group: &mut Group, check: &mut LookChecker, rng: &mut Rng) -> Outcome {
+    let random = MACHINE_KINDS.map(|kind| ours(rng, kind));
     for bytes in random.into_iter().chain([header(&Machine::blank())]) {
         for bit in 0..8 * HEADER {
             let mut changed = bytes;
@@ -110,8 +110,8 @@ pub fn every_bit(group: &mut Group, check: &mut Checker, rng: &mut Rng) -> Outco
 }
 
 /// Every value of every header byte.
-pub fn every_byte(group: &mut Group, check: &mut Checker, rng: &mut Rng) -> Outcome {
-    for kind in KINDS {
+pub fn every_byte(group: &mut Group, check: &mut LookChecker, rng: &mut Rng) -> Outcome {
+    for kind in MACHINE_KINDS {
         for at in 0..HEADER {
             for value in 0..=255 {
                 let mut bytes = ours(rng, kind);
@@ -126,8 +126,8 @@ pub fn every_byte(group: &mut Group, check: &mut Checker, rng: &mut Rng) -> Outc
 }
 
 /// Headers of 0 to 90 bytes: the beginning of a good one, or a good one and zeros, itself or noise.
-pub fn every_length(group: &mut Group, check: &mut Checker, rng: &mut Rng) -> Outcome {
-    for kind in KINDS {
+pub fn every_length(group: &mut Group, check: &mut LookChecker, rng: &mut Rng) -> Outcome {
+    for kind in MACHINE_KINDS {
         let good = ours(rng, kind);
         let noise = rng.bytes(HEADER);
         for more in [&[0; HEADER], &good, &noise[..]] {
@@ -141,9 +141,9 @@ pub fn every_length(group: &mut Group, check: &mut Checker, rng: &mut Rng) -> Ou
 }
 
 /// Headers with some bits changed, and noise.
-pub fn noise(group: &mut Group, check: &mut Checker, rng: &mut Rng) -> Outcome {
+pub fn noise(group: &mut Group, check: &mut LookChecker, rng: &mut Rng) -> Outcome {
     for case in 0..30_000 {
-        let mut bytes = ours(rng, KINDS[case % 6]).to_vec();
+        let mut bytes = ours(rng, MACHINE_KINDS[case % 6]).to_vec();
         for _ in 0..rng.below(4) {
             bytes[rng.below(HEADER)] ^= 1 << rng.below(8);
         }

@@ -5,7 +5,7 @@ use reference::machine::{header, Attachment, Machine, Model, HEADER};
 use reference::memory::Rng;
 
 /// Every kind of machine.
-pub const KINDS: [(Model, Attachment); 6] = [
+pub const MACHINE_KINDS: [(Model, Attachment); 6] = [
     (Model::K48, Attachment::None),
     (Model::K48, Attachment::Interface1),
     (Model::K48, Attachment::Mgt),

@@ -12,20 +12,20 @@ pub enum Look {
 }
 
 /// Every number of each look.
-const NUMBERS: [(Look, &[u32]); 3] = [
+const LOOK_NUMBERS: [(Look, &[u32]); 3] = [
     (Look::Model, &[0, 20]),
     (Look::Pair, &[0, 20, 32]),
     (Look::Place, &[0, 20]),
 ];
 
 #[derive(Default)]
-pub struct Seen {
+pub struct LookCounts {
     numbers: BTreeMap<(Look, u32), u64>,
     /// How often an accepted look told of these: model and attachment, the pair asked for, or in_rom and page.
     told: BTreeMap<(Look, [u8; 2]), u64>,
 }
 
-impl Seen {
+impl LookCounts {
     pub fn add(&mut self, look: Look, number: u32, about: [u8; 2]) {
         *self.numbers.entry((look, number)).or_default() += 1;
         if number == 0 {
@@ -35,14 +35,14 @@ impl Seen {
 
     /// Prints the counts. Each look answered each of its numbers and no other.
     pub fn numbers(&self) -> Outcome {
-        for (look, _) in NUMBERS {
+        for (look, _) in LOOK_NUMBERS {
             let counts = self.numbers.iter().filter(|((of, _), _)| *of == look);
             let list: Vec<String> = counts
                 .map(|((_, n), count)| format!("{n}: {count}"))
                 .collect();
             println!("    {look:?}  {}", list.join(", "));
         }
-        let all = NUMBERS
+        let all = LOOK_NUMBERS
             .into_iter()
             .flat_map(|(look, numbers)| numbers.iter().map(move |n| (look, *n)));
         same(self.numbers.keys().copied().collect(), all.collect())

@@ -1,13 +1,13 @@
 //! One call of the library, compared with the reference: answer and every byte.
 
 use crate::ffi_packing;
-use compare::lent::Lent;
+use compare::lent::LentPart;
 use compare::report::{hex, Group, Outcome};
 use reference::memory::Rng;
-use reference::packing::{packed, unpacked, Unpacked};
+use reference::packing::{packed, unpacked, UnpackedBytes};
 
 /// Makes a fresh dirty fill for every call and counts the answers given.
-pub struct Checker {
+pub struct PackingChecker {
     fills: Rng,
     pub unpack_answers: [u64; 3],
     pub pack_answers: [u64; 2],
@@ -16,11 +16,11 @@ pub struct Checker {
 /// The answer, and the bytes of the part after it.
 pub type Expected = (u32, Vec<u8>);
 
-pub fn expected_unpack(result: &Unpacked, length: usize) -> Expected {
+pub fn expected_unpack(result: &UnpackedBytes, length: usize) -> Expected {
     match result {
-        Unpacked::Malformed => (1, vec![0; length]),
-        Unpacked::Bytes(bytes) if bytes.len() == length => (0, bytes.clone()),
-        Unpacked::Bytes(_) => (2, vec![0; length]),
+        UnpackedBytes::Malformed => (1, vec![0; length]),
+        UnpackedBytes::Bytes(bytes) if bytes.len() == length => (0, bytes.clone()),
+        UnpackedBytes::Bytes(_) => (2, vec![0; length]),
     }
 }
 
@@ -39,9 +39,9 @@ fn around(length: usize) -> Vec<usize> {
     all
 }
 
-impl Checker {
-    pub fn new(seed: u64) -> Checker {
-        Checker {
+impl PackingChecker {
+    pub fn new(seed: u64) -> PackingChecker {
+        PackingChecker {
             fills: Rng::new(seed),
             unpack_answers: [0; 3],
             pack_answers: [0; 2],
@@ -53,11 +53,11 @@ impl Checker {
         group.inputs += 1;
         let result = unpacked(src);
         let mut lengths = match &result {
-            Unpacked::Bytes(bytes) => around(bytes.len()),
-            Unpacked::Malformed => vec![0, 1, src.len()],
+            UnpackedBytes::Bytes(bytes) => around(bytes.len()),
+            UnpackedBytes::Malformed => vec![0, 1, src.len()],
         };
         lengths.extend(others);
-        let source = Lent::holding(src, self.fills.word());
+        let source = LentPart::holding(src, self.fills.word());
         for length in lengths {
             let expected = expected_unpack(&result, length);
             self.unpack_call(&source, src, &expected)?;
@@ -66,9 +66,9 @@ impl Checker {
     }
 
     /// One call of unpack on `source`, which holds `src`.
-    pub fn unpack_call(&mut self, source: &Lent, src: &[u8], expected: &Expected) -> Outcome {
+    pub fn unpack_call(&mut self, source: &LentPart, src: &[u8], expected: &Expected) -> Outcome {
         let (answer, bytes) = expected;
-        let mut part = Lent::new(bytes.len(), self.fills.word());
+        let mut part = LentPart::new(bytes.len(), self.fills.word());
         let given = ffi_packing::unpack(source.part(), part.part_mut());
         let mut wrong = Vec::new();
         if given != *answer {
@@ -86,7 +86,7 @@ impl Checker {
     pub fn pack(&mut self, group: &mut Group, src: &[u8], others: &[usize]) -> Outcome {
         group.inputs += 1;
         let code = packed(src);
-        let source = Lent::holding(src, self.fills.word());
+        let source = LentPart::holding(src, self.fills.word());
         let length = ffi_packing::packed_len(source.part());
         if length != code.len() as u64 {
             let wrong = format!("packed length {length}, should be {}", code.len());
@@ -97,14 +97,14 @@ impl Checker {
         for length in lengths {
             self.pack_call(&source, src, &code, length)?;
         }
-        let source = Lent::holding(&code, self.fills.word());
+        let source = LentPart::holding(&code, self.fills.word());
         self.unpack_call(&source, &code, &(0, src.to_vec()))
     }
 
     /// One call of pack on `source`, which holds `src`, whose packed form is `code`.
-    fn pack_call(&mut self, source: &Lent, src: &[u8], code: &[u8], room: usize) -> Outcome {
+    fn pack_call(&mut self, source: &LentPart, src: &[u8], code: &[u8], room: usize) -> Outcome {
         let (answer, bytes) = expected_pack(code, room);
-        let mut part = Lent::new(room, self.fills.word());
+        let mut part = LentPart::new(room, self.fills.word());
         let dirty = self.fills.word();
         let mut cells = [dirty; 3];
         let given = ffi_packing::pack(source.part(), part.part_mut(), &mut cells[1]);

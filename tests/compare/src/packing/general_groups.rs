@@ -1,11 +1,11 @@
 //! The examples of the rules, round trips, and independence of what stood before.
 
-use super::checks::Checker;
+use super::checks::PackingChecker;
 use crate::ffi_packing::{pack, packed_len, unpack};
-use compare::lent::Lent;
+use compare::lent::LentPart;
 use compare::report::{hex, Group, Outcome};
 use reference::memory::Rng;
-use reference::packing::{packed, unpacked, Unpacked, ED};
+use reference::packing::{packed, unpacked, UnpackedBytes, ED};
 
 type PackExample = (&'static str, &'static [(usize, u8)], &'static [u8]);
 type UnpackExample = (&'static str, &'static [u8], Option<&'static [u8]>);
@@ -34,13 +34,13 @@ const UNPACKING: [UnpackExample; 3] = [
     ("P11", &[ED, ED, 3], None),
 ];
 
-pub fn examples(group: &mut Group, check: &mut Checker) -> Outcome {
+pub fn examples(group: &mut Group, check: &mut PackingChecker) -> Outcome {
     for (name, runs, code) in PACKING {
         let mut data = Vec::new();
         for &(length, byte) in runs {
             data.resize(data.len() + length, byte);
         }
-        if packed(&data) != code || unpacked(code) != Unpacked::Bytes(data.clone()) {
+        if packed(&data) != code || unpacked(code) != UnpackedBytes::Bytes(data.clone()) {
             return Err(format!("{name}: the reference itself"));
         }
         let run = check.pack(group, &data, &[]);
@@ -48,7 +48,9 @@ pub fn examples(group: &mut Group, check: &mut Checker) -> Outcome {
         run.map_err(|what| format!("{name}: {what}"))?;
     }
     for (name, code, bytes) in UNPACKING {
-        let expected = bytes.map_or(Unpacked::Malformed, |b| Unpacked::Bytes(b.to_vec()));
+        let expected = bytes.map_or(UnpackedBytes::Malformed, |b| {
+            UnpackedBytes::Bytes(b.to_vec())
+        });
         if unpacked(code) != expected {
             return Err(format!("{name}: the reference itself"));
         }
@@ -65,8 +67,8 @@ pub fn round_trips(group: &mut Group, rng: &mut Rng) -> Outcome {
         group.inputs += 1;
         let mut length = rng.word();
         let room = packed_len(&data) as usize;
-        let mut code = Lent::new(room, rng.word());
-        let mut back = Lent::new(data.len(), rng.word());
+        let mut code = LentPart::new(room, rng.word());
+        let mut back = LentPart::new(data.len(), rng.word());
         let first = pack(&data, code.part_mut(), &mut length);
         let second = unpack(code.part(), back.part_mut());
         let difference = back.difference(&data);
@@ -88,13 +90,13 @@ pub fn nothing_before(group: &mut Group, rng: &mut Rng) -> Outcome {
         };
         group.inputs += 1;
         let exact = match unpacked(&src) {
-            Unpacked::Bytes(bytes) => bytes.len(),
-            Unpacked::Malformed => 9,
+            UnpackedBytes::Bytes(bytes) => bytes.len(),
+            UnpackedBytes::Malformed => 9,
         };
         for room in [exact, exact + 1, packed(&src).len(), rng.below(300)] {
             let fill = rng.word();
             let run = |fill: u64| {
-                let (mut one, mut two) = (Lent::new(room, fill), Lent::new(room, !fill));
+                let (mut one, mut two) = (LentPart::new(room, fill), LentPart::new(room, !fill));
                 let mut length = fill;
                 let unpack = unpack(&src, one.part_mut());
                 let pack = pack(&src, two.part_mut(), &mut length);
@@ -117,7 +119,7 @@ pub fn nothing_before(group: &mut Group, rng: &mut Rng) -> Outcome {
 }
 
 /// Every answer of both calls was among the ones compared.
-pub fn answers_seen(check: &Checker) -> Outcome {
+pub fn answers_seen(check: &PackingChecker) -> Outcome {
     let mut all = check.unpack_answers.iter().chain(&check.pack_answers);
     if all.any(|n| *n < 1000) {
         let (unpack, pack) = (check.unpack_answers, check.pack_answers);

@@ -1,6 +1,6 @@
 //! Groups that pack. Every input is also unpacked again, and its length asked for.
 
-use super::checks::Checker;
+use super::checks::PackingChecker;
 use super::{lists, random_list};
 use crate::ffi_packing;
 use compare::report::{hex, Group, Outcome};
@@ -10,7 +10,7 @@ use reference::packing::{packed, ED};
 /// The longest that a page packs to.
 const LONGEST_PAGE: usize = 27_306;
 
-pub fn all_lists(group: &mut Group, check: &mut Checker) -> Outcome {
+pub fn all_lists(group: &mut Group, check: &mut PackingChecker) -> Outcome {
     for src in lists(8) {
         check.pack(group, &src, &[2, 20])?;
     }
@@ -18,7 +18,7 @@ pub fn all_lists(group: &mut Group, check: &mut Checker) -> Outcome {
 }
 
 /// Runs of every length up to 520 of some bytes, alone, after ED and before it.
-pub fn run_lengths(group: &mut Group, check: &mut Checker) -> Outcome {
+pub fn run_lengths(group: &mut Group, check: &mut PackingChecker) -> Outcome {
     for length in 0..=520 {
         for byte in [0x00, 0x41, ED, 0xEC, 0xFF] {
             let run = vec![byte; length];
@@ -33,7 +33,7 @@ pub fn run_lengths(group: &mut Group, check: &mut Checker) -> Outcome {
 
 /// Runs at every place of a look of 16 bytes, so that they end in it, at its end or after it, a single ED before
 /// every other one.
-pub fn looks(group: &mut Group, check: &mut Checker) -> Outcome {
+pub fn looks(group: &mut Group, check: &mut PackingChecker) -> Outcome {
     for before in 0..40 {
         for length in (0..24).chain([239, 240, 254, 255, 256]) {
             for byte in [0x00, ED] {
@@ -52,7 +52,7 @@ pub fn looks(group: &mut Group, check: &mut Checker) -> Outcome {
     Ok(())
 }
 
-pub fn random_runs(group: &mut Group, check: &mut Checker, rng: &mut Rng) -> Outcome {
+pub fn random_runs(group: &mut Group, check: &mut PackingChecker, rng: &mut Rng) -> Outcome {
     for case in 0..220_000 {
         let (most, longest) = match case % 50 {
             0 => (20, 600),
@@ -65,7 +65,7 @@ pub fn random_runs(group: &mut Group, check: &mut Checker, rng: &mut Rng) -> Out
     Ok(())
 }
 
-pub fn random_bytes(group: &mut Group, check: &mut Checker, rng: &mut Rng) -> Outcome {
+pub fn random_bytes(group: &mut Group, check: &mut PackingChecker, rng: &mut Rng) -> Outcome {
     for case in 0..200_000 {
         let src = random_list(rng, case);
         check.pack(group, &src, &[rng.below(60)])?;
@@ -73,7 +73,7 @@ pub fn random_bytes(group: &mut Group, check: &mut Checker, rng: &mut Rng) -> Ou
     Ok(())
 }
 
-pub fn whole_images(group: &mut Group, check: &mut Checker, rng: &mut Rng) -> Outcome {
+pub fn whole_images(group: &mut Group, check: &mut PackingChecker, rng: &mut Rng) -> Outcome {
     for _ in 0..3 {
         for (_, memory) in images(rng.word()) {
             check.pack(group, &memory, &[MEMORY, rng.below(2 * MEMORY)])?;
@@ -83,7 +83,7 @@ pub fn whole_images(group: &mut Group, check: &mut Checker, rng: &mut Rng) -> Ou
 }
 
 /// No page packs to more than 27,306 bytes, and one packs to just that.
-pub fn longest_page(group: &mut Group, check: &mut Checker, rng: &mut Rng) -> Outcome {
+pub fn longest_page(group: &mut Group, check: &mut PackingChecker, rng: &mut Rng) -> Outcome {
     let mut worst = [ED, ED, 0x00].repeat(5461);
     worst.push(0x00);
     check.pack(group, &worst, &[LONGEST_PAGE, PAGE])?;

@@ -1,17 +1,17 @@
 //! One page copied out by the library, compared with the reference and with what `snap_view` says of the same input.
 
-use super::sources::Input;
+use super::sources::ViewInput;
 use crate::ffi_view;
 use compare::calls::{answer, note, outcome};
 use compare::ffi_snapshot;
-use compare::lent::Lent;
+use compare::lent::LentPart;
 use compare::report::{hex, Group, Outcome};
 use reference::journal::{view, View};
 use reference::memory::{Rng, PAGE};
 use std::collections::BTreeMap;
 
 /// Every number of a view.
-const NUMBERS: [u32; 5] = [0, 20, 21, 30, 31];
+const VIEW_NUMBERS: [u32; 5] = [0, 20, 21, 30, 31];
 
 /// Every page of each model, by the length of its ROM.
 const PAGES: [(usize, &[u8]); 2] = [
@@ -20,9 +20,9 @@ const PAGES: [(usize, &[u8]); 2] = [
 ];
 
 /// Makes the output dirty before every call, and counts what was answered.
-pub struct Checker {
+pub struct ViewChecker {
     fills: Rng,
-    out: Lent,
+    out: LentPart,
     due: Vec<u8>,
     /// How often `snap_view` answered each number.
     numbers: BTreeMap<u32, u64>,
@@ -30,11 +30,11 @@ pub struct Checker {
     pages: BTreeMap<(usize, u8), u64>,
 }
 
-impl Checker {
-    pub fn new(seed: u64) -> Checker {
-        Checker {
+impl ViewChecker {
+    pub fn new(seed: u64) -> ViewChecker {
+        ViewChecker {
             fills: Rng::new(seed),
-            out: Lent::new(0, 0),
+            out: LentPart::new(0, 0),
             due: Vec::new(),
             numbers: BTreeMap::new(),
             pages: BTreeMap::new(),
@@ -42,7 +42,7 @@ impl Checker {
     }
 
     /// One page into an output of `room` bytes, and the view of it: length, number and every byte as the reference has them.
-    pub fn page(&mut self, group: &mut Group, from: Input, page: u8, room: usize) -> Outcome {
+    pub fn page(&mut self, group: &mut Group, from: ViewInput, page: u8, room: usize) -> Outcome {
         let (rom, area) = (from.rom.bytes.len(), from.area.bytes.len());
         let (number, part) = view(&from.header.bytes, rom, area, page);
         let due = from.bytes(part).ok_or("the reference itself")?;
@@ -57,7 +57,7 @@ impl Checker {
     }
 
     /// One page and the view of it, by the library alone: the page is what the view points at.
-    pub fn pointed_at(&mut self, group: &mut Group, from: Input, page: u8) -> Outcome {
+    pub fn pointed_at(&mut self, group: &mut Group, from: ViewInput, page: u8) -> Outcome {
         let (_, shown) = shown(from, page);
         let wrong = match from.bytes(shown) {
             Some(due) => self.copy_out(group, from, page, PAGE, due),
@@ -70,7 +70,7 @@ impl Checker {
     fn copy_out(
         &mut self,
         group: &mut Group,
-        from: Input,
+        from: ViewInput,
         page: u8,
         room: usize,
         due: &[u8],
@@ -122,15 +122,15 @@ impl Checker {
         let list: Vec<String> = counts.map(|(n, count)| format!("{n}: {count}")).collect();
         println!("    view  {}", list.join(", "));
         let seen: Vec<u32> = self.numbers.keys().copied().collect();
-        match seen == NUMBERS {
+        match seen == VIEW_NUMBERS {
             true => Ok(()),
-            false => Err(format!("{seen:?}, should be {NUMBERS:?}")),
+            false => Err(format!("{seen:?}, should be {VIEW_NUMBERS:?}")),
         }
     }
 }
 
 /// The number of `snap_view`, and the part it says.
-fn shown(from: Input, page: u8) -> (u32, View) {
+fn shown(from: ViewInput, page: u8) -> (u32, View) {
     let mut part = View {
         in_rom: 0xA5,
         start: u64::MAX / 3,
@@ -141,7 +141,7 @@ fn shown(from: Input, page: u8) -> (u32, View) {
     (number, part)
 }
 
-fn tell(wrong: Vec<String>, from: Input, page: u8, room: usize) -> Outcome {
+fn tell(wrong: Vec<String>, from: ViewInput, page: u8, room: usize) -> Outcome {
     outcome(wrong).map_err(|what| {
         let (header, lengths) = (hex(&from.header.bytes), from.lengths());
         format!("page {page} into {room} bytes: {what}: header {header}, {lengths}")

@@ -1,9 +1,9 @@
 //! The groups of the comparison.
 
-use super::checks::Checker;
-use super::sources::{Input, Source, Sources};
+use super::checks::ViewChecker;
+use super::sources::{Source, Sources, ViewInput};
 use crate::ffi_view;
-use compare::lent::Lent;
+use compare::lent::LentPart;
 use compare::machines::machine;
 use compare::report::{Group, Outcome};
 use reference::machine::{header, Attachment, Machine, Model, HEADER};
@@ -55,7 +55,7 @@ fn any_page(rng: &mut Rng) -> u8 {
 /// Every page number with headers of every kind and every length of ROM and area.
 pub fn every_page(
     group: &mut Group,
-    check: &mut Checker,
+    check: &mut ViewChecker,
     sources: &Sources,
     rng: &mut Rng,
     (model, attachment): (Model, Attachment),
@@ -64,7 +64,7 @@ pub fn every_page(
         let header = &Source::new(bytes, rng);
         for rom in &sources.roms {
             for area in &sources.areas {
-                let from = Input { header, rom, area };
+                let from = ViewInput { header, rom, area };
                 for page in 0..=255 {
                     check.page(group, from, page, PAGE)?;
                 }
@@ -78,7 +78,7 @@ pub fn every_page(
 /// Every value of every header byte, with the ROM of either model and some pages.
 pub fn every_header_byte(
     group: &mut Group,
-    check: &mut Checker,
+    check: &mut ViewChecker,
     sources: &Sources,
     rng: &mut Rng,
 ) -> Outcome {
@@ -104,7 +104,7 @@ pub fn every_header_byte(
 /// Outputs of every kind of length, for pages that are given and for each refusal.
 pub fn outputs(
     group: &mut Group,
-    check: &mut Checker,
+    check: &mut ViewChecker,
     sources: &Sources,
     rng: &mut Rng,
 ) -> Outcome {
@@ -117,9 +117,9 @@ pub fn outputs(
         let area = &sources.areas[case % sources.areas.len()];
         let header = damaged;
         let others = [
-            Input { header, ..right },
-            Input { rom, ..right },
-            Input { area, ..right },
+            ViewInput { header, ..right },
+            ViewInput { rom, ..right },
+            ViewInput { area, ..right },
         ];
         for from in [right].into_iter().chain(others) {
             for room in ROOMS.into_iter().chain([rng.below(3 * PAGE)]) {
@@ -136,14 +136,14 @@ pub fn outputs(
 /// The page is what `snap_view` points at, by the library alone.
 pub fn pointed_at(
     group: &mut Group,
-    check: &mut Checker,
+    check: &mut ViewChecker,
     sources: &Sources,
     rng: &mut Rng,
 ) -> Outcome {
     for _ in 0..20_000 {
         let header = &any_header(rng);
         let (rom, area) = sources.pick(rng);
-        let from = Input { header, rom, area };
+        let from = ViewInput { header, rom, area };
         for _ in 0..4 {
             check.pointed_at(group, from, any_page(rng))?;
         }
@@ -158,10 +158,10 @@ pub fn nothing_before(group: &mut Group, sources: &Sources, rng: &mut Rng) -> Ou
         group.inputs += 1;
         let header = &any_header(rng);
         let (rom, area) = sources.pick(rng);
-        let from = Input { header, rom, area };
+        let from = ViewInput { header, rom, area };
         let (page, room, fill) = (any_page(rng), rng.pick(&ROOMS), rng.word());
         let run = |fill: u64| {
-            let mut out = Lent::new(room, fill);
+            let mut out = LentPart::new(room, fill);
             let length = ffi_view::page(from.lent(), page, out.part_mut());
             (length, out)
         };

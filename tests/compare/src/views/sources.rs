@@ -2,7 +2,7 @@
 
 use compare::calls::{note, outcome};
 use compare::ffi_snapshot::Viewed;
-use compare::lent::Lent;
+use compare::lent::LentPart;
 use compare::report::Outcome;
 use reference::journal::View;
 use reference::machine::Model;
@@ -22,12 +22,12 @@ const AREAS: [usize; 4] = [0, MEMORY - 1, MEMORY, MEMORY + 1];
 
 pub struct Source {
     pub bytes: Vec<u8>,
-    lent: Lent,
+    lent: LentPart,
 }
 
 impl Source {
     pub fn new(bytes: Vec<u8>, rng: &mut Rng) -> Source {
-        let lent = Lent::holding(&bytes, rng.word());
+        let lent = LentPart::holding(&bytes, rng.word());
         Source { bytes, lent }
     }
 
@@ -39,13 +39,13 @@ impl Source {
 
 /// What a view looks at.
 #[derive(Clone, Copy)]
-pub struct Input<'a> {
+pub struct ViewInput<'a> {
     pub header: &'a Source,
     pub rom: &'a Source,
     pub area: &'a Source,
 }
 
-impl<'a> Input<'a> {
+impl<'a> ViewInput<'a> {
     pub fn lent(self) -> Viewed<'a> {
         Viewed {
             header: self.header.lent.part(),
@@ -124,13 +124,13 @@ impl Sources {
     }
 
     /// A header with a ROM and an area as a machine of this model needs.
-    pub fn right<'a>(&'a self, header: &'a Source, model: Model) -> Input<'a> {
+    pub fn right<'a>(&'a self, header: &'a Source, model: Model) -> ViewInput<'a> {
         let rom = match model {
             Model::K48 => self.rom(PAGE),
             Model::K128 => self.rom(2 * PAGE),
         };
         let area = self.area();
-        Input { header, rom, area }
+        ViewInput { header, rom, area }
     }
 
     /// Every page that can be given differs from every other, from zeros, and from itself a byte further on.

@@ -3,15 +3,15 @@
 use super::coding::Coding;
 use super::header_groups::expect;
 use super::maker::{Maker, VERSIONS};
-use super::sample::Block;
-use compare::calls::files::Checker;
+use super::sample::CodedBlock;
+use compare::calls::files::FileChecker;
 use compare::report::{Group, Outcome};
 use reference::machine::{Model, Version};
 use reference::memory::{images, PAGE};
 use reference::packing::packed;
 
 /// Good files: every mode, any order of blocks, any coding.
-pub fn good(group: &mut Group, check: &mut Checker, maker: &mut Maker) -> Outcome {
+pub fn good(group: &mut Group, check: &mut FileChecker, maker: &mut Maker) -> Outcome {
     for case in 0..36_000 {
         let sample = maker.sample(VERSIONS[case % 3]);
         let answer = check.read(group, &sample.bytes())?;
@@ -21,7 +21,7 @@ pub fn good(group: &mut Group, check: &mut Checker, maker: &mut Maker) -> Outcom
 }
 
 /// Whole images in every version, packed and plain.
-pub fn whole_images(group: &mut Group, check: &mut Checker, maker: &mut Maker) -> Outcome {
+pub fn whole_images(group: &mut Group, check: &mut FileChecker, maker: &mut Maker) -> Outcome {
     for (_, memory) in images(maker.rng.word()) {
         for (version, mode) in [
             (Version::V2, 3),
@@ -52,7 +52,7 @@ pub fn whole_images(group: &mut Group, check: &mut Checker, maker: &mut Maker) -
 }
 
 /// Lists of blocks of any number, good, malformed, too long and too short.
-pub fn block_lists(group: &mut Group, check: &mut Checker, maker: &mut Maker) -> Outcome {
+pub fn block_lists(group: &mut Group, check: &mut FileChecker, maker: &mut Maker) -> Outcome {
     for _ in 0..25_000 {
         let version = maker.rng.pick(&[Version::V2, Version::V3]);
         let mut sample = maker.sample(version);
@@ -71,7 +71,7 @@ pub fn block_lists(group: &mut Group, check: &mut Checker, maker: &mut Maker) ->
                 coding.length = coding.data.len() as u16;
             }
             let number = lowest + rng.below(9) as u8;
-            sample.blocks.push(Block { number, coding });
+            sample.blocks.push(CodedBlock { number, coding });
         }
         check.read(group, &sample.bytes())?;
     }
@@ -79,7 +79,7 @@ pub fn block_lists(group: &mut Group, check: &mut Checker, maker: &mut Maker) ->
 }
 
 /// One byte changed, the end lost, or bytes added.
-pub fn changed(group: &mut Group, check: &mut Checker, maker: &mut Maker) -> Outcome {
+pub fn changed(group: &mut Group, check: &mut FileChecker, maker: &mut Maker) -> Outcome {
     for case in 0..45_000 {
         let sample = maker.any();
         let mut file = sample.bytes();
@@ -109,7 +109,7 @@ pub fn changed(group: &mut Group, check: &mut Checker, maker: &mut Maker) -> Out
 }
 
 /// Short files of every version, cut at every place, and every byte of their bodies changed.
-pub fn every_cut(group: &mut Group, check: &mut Checker, maker: &mut Maker) -> Outcome {
+pub fn every_cut(group: &mut Group, check: &mut FileChecker, maker: &mut Maker) -> Outcome {
     for (version, mode) in [
         (Version::V1, 0),
         (Version::V2, 1),
@@ -140,7 +140,7 @@ pub fn every_cut(group: &mut Group, check: &mut Checker, maker: &mut Maker) -> O
 }
 
 /// Bytes that are no file, most of them with a header that is read.
-pub fn random_bytes(group: &mut Group, check: &mut Checker, maker: &mut Maker) -> Outcome {
+pub fn random_bytes(group: &mut Group, check: &mut FileChecker, maker: &mut Maker) -> Outcome {
     for case in 0..15_000 {
         let mut file = match case % 4 {
             0 => Vec::new(),

@@ -2,13 +2,13 @@
 
 use super::faults::other_blocks;
 use super::maker::{Maker, VERSIONS};
-use compare::calls::files::Checker;
+use compare::calls::files::FileChecker;
 use compare::report::{Group, Outcome};
 use reference::machine::{header, Machine, Version, HEADER};
 use reference::memory::MEMORY;
 
 /// The examples that are run: short files and a short area.
-pub fn examples(group: &mut Group, check: &mut Checker) -> Outcome {
+pub fn examples(group: &mut Group, check: &mut FileChecker) -> Outcome {
     let mut v1 = vec![0; 30];
     v1[7] = 0x80;
     for (file, area, number) in [
@@ -39,7 +39,7 @@ pub fn expect(answer: u32, number: u32) -> Outcome {
 }
 
 /// Every value of byte 34, with the blocks of 48K and of 128K.
-pub fn modes(group: &mut Group, check: &mut Checker, maker: &mut Maker) -> Outcome {
+pub fn modes(group: &mut Group, check: &mut FileChecker, maker: &mut Maker) -> Outcome {
     for version in [Version::V2, Version::V3] {
         for mode in 0..=255 {
             for case in 0..12 {
@@ -58,7 +58,7 @@ pub fn modes(group: &mut Group, check: &mut Checker, maker: &mut Maker) -> Outco
 /// Every value of one header byte in files of every version, with both kinds of v1 body.
 pub fn every_value(
     group: &mut Group,
-    check: &mut Checker,
+    check: &mut FileChecker,
     maker: &mut Maker,
     at: usize,
 ) -> Outcome {
@@ -75,7 +75,7 @@ pub fn every_value(
 }
 
 /// Every value of every header byte of a short file of each version.
-pub fn every_byte(group: &mut Group, check: &mut Checker, maker: &mut Maker) -> Outcome {
+pub fn every_byte(group: &mut Group, check: &mut FileChecker, maker: &mut Maker) -> Outcome {
     for (version, mode) in [(Version::V1, 0), (Version::V2, 0), (Version::V3, 4)] {
         let sample = maker.short(version, mode);
         let good = sample.bytes();
@@ -91,7 +91,7 @@ pub fn every_byte(group: &mut Group, check: &mut Checker, maker: &mut Maker) -> 
 }
 
 /// Both counters around their ends.
-pub fn counters(group: &mut Group, check: &mut Checker, maker: &mut Maker) -> Outcome {
+pub fn counters(group: &mut Group, check: &mut FileChecker, maker: &mut Maker) -> Outcome {
     for mode in [0, 4] {
         let mut sample = maker.short(Version::V3, mode);
         for high in 0..=255 {
@@ -108,7 +108,7 @@ pub fn counters(group: &mut Group, check: &mut Checker, maker: &mut Maker) -> Ou
 }
 
 /// Areas and header buffers of other lengths, with good and damaged files.
-pub fn buffers(group: &mut Group, check: &mut Checker, maker: &mut Maker) -> Outcome {
+pub fn buffers(group: &mut Group, check: &mut FileChecker, maker: &mut Maker) -> Outcome {
     for case in 0..80 {
         let mut file = maker.any().bytes();
         if case % 4 == 0 {

@@ -1,7 +1,7 @@
 //! Makes good files of every version and mode.
 
 use super::coding::{Coding, Codings};
-use super::sample::{Block, Sample};
+use super::sample::{CodedBlock, FileParts};
 use reference::machine::{quarter, Machine, Model, Version};
 use reference::memory::{Rng, PAGE};
 
@@ -20,13 +20,13 @@ impl Maker {
     }
 
     /// A good file of a random version and mode.
-    pub fn any(&mut self) -> Sample {
+    pub fn any(&mut self) -> FileParts {
         let version = self.rng.pick(&VERSIONS);
         self.sample(version)
     }
 
     /// A good file of this version and of a random mode.
-    pub fn sample(&mut self, version: Version) -> Sample {
+    pub fn sample(&mut self, version: Version) -> FileParts {
         let mode = match version {
             Version::V1 => 0,
             Version::V2 => self.rng.pick(&[0, 1, 3, 4]),
@@ -36,13 +36,13 @@ impl Maker {
     }
 
     /// A good file of this version and mode.
-    pub fn of_mode(&mut self, version: Version, mode: u8) -> Sample {
+    pub fn of_mode(&mut self, version: Version, mode: u8) -> FileParts {
         let first_128 = if version == Version::V2 { 3 } else { 4 };
         let model = match mode < first_128 {
             true => Model::K48,
             false => Model::K128,
         };
-        let mut sample = Sample {
+        let mut sample = FileParts {
             version,
             model,
             header: self.header(version, model, mode),
@@ -91,11 +91,11 @@ impl Maker {
     }
 
     /// Every block of the model, in a random order.
-    pub fn blocks(&mut self, model: Model) -> Vec<Block> {
+    pub fn blocks(&mut self, model: Model) -> Vec<CodedBlock> {
         let mut blocks = Vec::new();
         for &(number, _) in Machine::blocks(model) {
             let coding = self.codings.any(&mut self.rng);
-            blocks.push(Block { number, coding });
+            blocks.push(CodedBlock { number, coding });
         }
         for at in (1..blocks.len()).rev() {
             blocks.swap(at, self.rng.below(at + 1));
@@ -104,7 +104,7 @@ impl Maker {
     }
 
     /// A body packed or not, as byte 12 says: three pages, one after the other.
-    fn v1_body(&mut self, sample: &mut Sample) {
+    fn v1_body(&mut self, sample: &mut FileParts) {
         let is_packed = sample.is_packed_v1();
         for part in 0..3 {
             let coding = self.v1_part(is_packed, part == 2);
@@ -135,7 +135,7 @@ impl Maker {
     }
 
     /// A short file: every page of one byte, the blocks in order.
-    pub fn short(&mut self, version: Version, mode: u8) -> Sample {
+    pub fn short(&mut self, version: Version, mode: u8) -> FileParts {
         let mut sample = self.of_mode(version, mode);
         for block in &mut sample.blocks {
             block.coding = Coding::packed(super::coding::constant(PAGE, self.rng.likely_byte()));

@@ -4,8 +4,8 @@ use super::coding::{constant, Coding};
 use super::faults::{applies, damage};
 use super::header_groups::expect;
 use super::maker::Maker;
-use super::sample::Block;
-use compare::calls::files::Checker;
+use super::sample::CodedBlock;
+use compare::calls::files::FileChecker;
 use compare::choice::Choice;
 use compare::report::{Group, Outcome};
 use reference::machine::Version;
@@ -35,7 +35,7 @@ fn data(choice: &Choice, full: usize, rng: &mut Rng) -> Vec<u8> {
 }
 
 /// Every choice of faults in the last block, with and without another block missing.
-pub fn in_a_block(group: &mut Group, check: &mut Checker, maker: &mut Maker) -> Outcome {
+pub fn in_a_block(group: &mut Group, check: &mut FileChecker, maker: &mut Maker) -> Outcome {
     for case in 0..64 * 60 {
         let choice = Choice {
             order: &BLOCK_ORDER,
@@ -51,7 +51,7 @@ pub fn in_a_block(group: &mut Group, check: &mut Checker, maker: &mut Maker) -> 
             (false, false) => own,
         };
         let coding = Coding::packed(data(&choice, PAGE, &mut maker.rng));
-        sample.blocks[last] = Block { number, coding };
+        sample.blocks[last] = CodedBlock { number, coding };
         if choice.has(13) {
             sample.blocks.remove(1);
         }
@@ -65,7 +65,7 @@ pub fn in_a_block(group: &mut Group, check: &mut Checker, maker: &mut Maker) -> 
 }
 
 /// Every choice of faults in a packed v1 file.
-pub fn in_v1(group: &mut Group, check: &mut Checker, maker: &mut Maker) -> Outcome {
+pub fn in_v1(group: &mut Group, check: &mut FileChecker, maker: &mut Maker) -> Outcome {
     for case in 0..32 * 60 {
         let choice = Choice {
             order: &V1_ORDER,
@@ -89,7 +89,7 @@ pub fn in_v1(group: &mut Group, check: &mut Checker, maker: &mut Maker) -> Outco
 }
 
 /// A fault in the header and another one anywhere after it in the order.
-pub fn in_the_header(group: &mut Group, check: &mut Checker, maker: &mut Maker) -> Outcome {
+pub fn in_the_header(group: &mut Group, check: &mut FileChecker, maker: &mut Maker) -> Outcome {
     for first in 3..=7 {
         for second in first..=14 {
             for _ in 0..120 {

@@ -4,18 +4,18 @@ use super::coding::Coding;
 use reference::machine::{Model, Version};
 
 #[derive(Clone)]
-pub struct Block {
+pub struct CodedBlock {
     pub number: u8,
     pub coding: Coding,
 }
 
 #[derive(Clone)]
-pub struct Sample {
+pub struct FileParts {
     pub version: Version,
     pub model: Model,
     pub header: Vec<u8>,
     /// The blocks of v2 and v3.
-    pub blocks: Vec<Block>,
+    pub blocks: Vec<CodedBlock>,
     /// The body of v1 without its end marker, and the marker.
     pub body: Vec<u8>,
     pub marker: Vec<u8>,
@@ -25,7 +25,7 @@ pub struct Sample {
     pub cut: Option<usize>,
 }
 
-impl Sample {
+impl FileParts {
     pub fn bytes(&self) -> Vec<u8> {
         let mut file = self.header.clone();
         for block in &self.blocks {

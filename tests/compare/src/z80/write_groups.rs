@@ -2,7 +2,7 @@
 
 use super::header_groups::expect;
 use super::maker::Maker;
-use compare::calls::files::Checker;
+use compare::calls::files::FileChecker;
 use compare::report::{Group, Outcome};
 use reference::machine::{header, own_header, Machine, Model, Version, HEADER};
 use reference::memory::{images, Rng, MEMORY};
@@ -19,7 +19,7 @@ fn machine(maker: &mut Maker) -> (Machine, Vec<u8>) {
 }
 
 /// Outputs of the file's length, one shorter, one longer, 0 and others.
-pub fn rooms(group: &mut Group, check: &mut Checker, maker: &mut Maker) -> Outcome {
+pub fn rooms(group: &mut Group, check: &mut FileChecker, maker: &mut Maker) -> Outcome {
     for _ in 0..2_500 {
         let (machine, mut memory) = machine(maker);
         if maker.rng.once_in(2) {
@@ -41,7 +41,7 @@ pub fn rooms(group: &mut Group, check: &mut Checker, maker: &mut Maker) -> Outco
 }
 
 /// Whole images as 48K and as 128K machines.
-pub fn whole_images(group: &mut Group, check: &mut Checker, maker: &mut Maker) -> Outcome {
+pub fn whole_images(group: &mut Group, check: &mut FileChecker, maker: &mut Maker) -> Outcome {
     for (_, memory) in images(maker.rng.word()) {
         for model in [Model::K48, Model::K128] {
             let machine = Machine {
@@ -59,7 +59,7 @@ pub fn whole_images(group: &mut Group, check: &mut Checker, maker: &mut Maker) -
 }
 
 /// Every value of every byte of a 48K and of a 128K header.
-pub fn every_header_byte(group: &mut Group, check: &mut Checker, maker: &mut Maker) -> Outcome {
+pub fn every_header_byte(group: &mut Group, check: &mut FileChecker, maker: &mut Maker) -> Outcome {
     let memory = vec![maker.rng.byte(); MEMORY];
     for model in [Model::K48, Model::K128] {
         let machine = Machine {
@@ -78,7 +78,7 @@ pub fn every_header_byte(group: &mut Group, check: &mut Checker, maker: &mut Mak
 }
 
 /// Headers of machines with one byte changed, headers of files as they came, and random bytes.
-pub fn foreign_headers(group: &mut Group, check: &mut Checker, maker: &mut Maker) -> Outcome {
+pub fn foreign_headers(group: &mut Group, check: &mut FileChecker, maker: &mut Maker) -> Outcome {
     let memory = vec![0; MEMORY];
     for case in 0..20_000 {
         let sample = maker.sample(Version::V3);
@@ -113,7 +113,7 @@ fn change(byte: u8, rng: &mut Rng) -> u8 {
 }
 
 /// Headers, areas and outputs of other lengths, in every combination.
-pub fn buffers(group: &mut Group, check: &mut Checker, maker: &mut Maker) -> Outcome {
+pub fn buffers(group: &mut Group, check: &mut FileChecker, maker: &mut Maker) -> Outcome {
     for _ in 0..20 {
         let (machine, memory) = machine(maker);
         let good = header(&machine);
@@ -139,7 +139,7 @@ pub fn buffers(group: &mut Group, check: &mut Checker, maker: &mut Maker) -> Out
 }
 
 /// No file is longer than 131,182 bytes, and this one is just that.
-pub fn longest_file(group: &mut Group, check: &mut Checker) -> Outcome {
+pub fn longest_file(group: &mut Group, check: &mut FileChecker) -> Outcome {
     let memory = [0xED, 0x00].repeat(MEMORY / 2);
     let machine = Machine {
         model: Model::K128,

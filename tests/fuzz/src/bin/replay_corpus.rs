@@ -3,7 +3,7 @@
 #![forbid(unsafe_code)]
 
 use compare::report::{Group, Outcome, Report};
-use fuzz::input::{Input, Mode, MODES};
+use fuzz::input::{Input, InputMode, MODES};
 use fuzz::target::Target;
 use std::io::Result;
 use std::process::ExitCode;
@@ -26,7 +26,12 @@ fn inputs(folders: &[String]) -> Result<Vec<(String, Vec<u8>)>> {
 }
 
 /// Runs the inputs of a mode.
-fn run(group: &mut Group, target: &mut Target, mode: Mode, all: &[(String, Vec<u8>)]) -> Outcome {
+fn run(
+    group: &mut Group,
+    target: &mut Target,
+    mode: InputMode,
+    all: &[(String, Vec<u8>)],
+) -> Outcome {
     for (name, bytes) in all {
         if Input::new(bytes).mode() == mode {
             group.inputs += 1;

@@ -12,7 +12,7 @@ pub struct Contents {
 
 /// What a correction gives a value to.
 #[derive(Debug, Clone, Copy, PartialEq, Eq, PartialOrd, Ord)]
-pub enum Place {
+pub enum CorrectedPlace {
     /// A byte of the memory, counted over all pages.
     Byte(usize),
     Pair(u8),
@@ -21,31 +21,31 @@ pub enum Place {
 
 impl Contents {
     /// Where a good correction goes, with the paging of this moment.
-    pub fn place(&self, correction: Correction) -> Place {
+    pub fn place(&self, correction: Correction) -> CorrectedPlace {
         match correction {
             Correction::Byte { address, .. } => {
                 let page = page_at(self.machine.model, self.machine.paging, address);
                 let page = usize::from(page.expect("an address of RAM"));
-                Place::Byte(page * PAGE + usize::from(address) % PAGE)
+                CorrectedPlace::Byte(page * PAGE + usize::from(address) % PAGE)
             }
-            Correction::Pair { pair, .. } => Place::Pair(pair),
-            Correction::Out { .. } => Place::LastOut,
+            Correction::Pair { pair, .. } => CorrectedPlace::Pair(pair),
+            Correction::Out { .. } => CorrectedPlace::LastOut,
         }
     }
 
-    pub fn value(&self, place: Place) -> u16 {
+    pub fn value(&self, place: CorrectedPlace) -> u16 {
         match place {
-            Place::Byte(at) => self.memory[at].into(),
-            Place::Pair(pair) => self.machine.pair(pair),
-            Place::LastOut => self.machine.paging.into(),
+            CorrectedPlace::Byte(at) => self.memory[at].into(),
+            CorrectedPlace::Pair(pair) => self.machine.pair(pair),
+            CorrectedPlace::LastOut => self.machine.paging.into(),
         }
     }
 
-    pub fn put(&mut self, place: Place, value: u16) {
+    pub fn put(&mut self, place: CorrectedPlace, value: u16) {
         match place {
-            Place::Byte(at) => self.memory[at] = value as u8,
-            Place::Pair(pair) => self.machine.put_pair(pair, value),
-            Place::LastOut => self.machine.paging = value as u8,
+            CorrectedPlace::Byte(at) => self.memory[at] = value as u8,
+            CorrectedPlace::Pair(pair) => self.machine.put_pair(pair, value),
+            CorrectedPlace::LastOut => self.machine.paging = value as u8,
         }
     }
 

@@ -2,7 +2,7 @@
 //! There is no log and no old value: a place holds what the last applied correction of it asked for, else
 //! what it held at the start.
 
-use super::contents::{asked, Place};
+use super::contents::{asked, CorrectedPlace};
 use super::{capacity, Call, Contents, Correction, LOCK};
 use crate::machine::{Machine, Model, PAIRS};
 use crate::refusal::{number, Refusal};
@@ -16,7 +16,7 @@ pub struct Replay {
     undone: Vec<Correction>,
     now: Contents,
     /// What the applied corrections of each place asked for, first to last.
-    values: BTreeMap<Place, Vec<u16>>,
+    values: BTreeMap<CorrectedPlace, Vec<u16>>,
 }
 
 impl Replay {

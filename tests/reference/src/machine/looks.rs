@@ -6,7 +6,7 @@ use crate::memory::PAGE;
 use crate::refusal::{number, Refusal};
 
 #[derive(Debug, Clone, Copy, Default, PartialEq, Eq)]
-pub struct Kind {
+pub struct MachineKind {
     /// 0 for 48K, 1 for 128K.
     pub model: u8,
     /// 0 for none, 1 for Interface I, 2 for M.G.T.
@@ -21,8 +21,8 @@ pub struct Location {
     pub offset: u16,
 }
 
-pub fn kind(header: &[u8]) -> (u32, Kind) {
-    answered(machine(header).map(|machine| Kind {
+pub fn kind(header: &[u8]) -> (u32, MachineKind) {
+    answered(machine(header).map(|machine| MachineKind {
         model: match machine.model {
             Model::K48 => 0,
             Model::K128 => 1,
@@ -90,10 +90,13 @@ mod tests {
             (6, 1, 2),
         ];
         for (mode, model, attachment) in modes {
-            assert_eq!(kind(&bytes(mode, 0)), (0, Kind { model, attachment }));
+            assert_eq!(
+                kind(&bytes(mode, 0)),
+                (0, MachineKind { model, attachment })
+            );
         }
         for mode in [2, 7, 12, 255] {
-            assert_eq!(kind(&bytes(mode, 0)), (20, Kind::default()));
+            assert_eq!(kind(&bytes(mode, 0)), (20, MachineKind::default()));
         }
     }
 
@@ -151,7 +154,7 @@ mod tests {
         let longer = [&good[..], &[0]].concat();
         let out_on_48k = bytes(0, 1);
         for header in [&good[..85], &longer, &[], &damaged, &out_on_48k] {
-            assert_eq!(kind(header), (20, Kind::default()));
+            assert_eq!(kind(header), (20, MachineKind::default()));
             assert_eq!(pair(header, 11), (20, 0));
             assert_eq!(pair(header, 12), (20, 0));
             for address in [0, 0xFFFF] {

@@ -3,7 +3,7 @@
 use super::{Rng, PAGE};
 use crate::packing::ED;
 
-pub type Page = fn(&mut Rng, usize, &mut Vec<u8>);
+pub type PageMaker = fn(&mut Rng, usize, &mut Vec<u8>);
 
 const WORDS: &[&str] = &[
     "the", "of", "and", "you", "door", "north", "south", "lamp", "a", "is", "are", "in", "cave",
@@ -130,7 +130,7 @@ pub fn tables(rng: &mut Rng, _: usize, memory: &mut Vec<u8>) {
 
 /// A different kind in every page.
 pub fn mixed(rng: &mut Rng, number: usize, memory: &mut Vec<u8>) {
-    const KINDS: [Page; 8] = [
+    const KINDS: [PageMaker; 8] = [
         code,
         screen,
         text,

@@ -1,26 +1,26 @@
 //! Both directions into a lent part, in the ordinary form: codes found by `windows(2).position`, plain
 //! stretches copied as slices, runs filled as slices.
 
-use super::{ED, LONGEST};
+use super::{ED, LONGEST_RUN};
 
 #[derive(Debug, Clone, Copy, PartialEq, Eq)]
-pub enum Answer {
+pub enum UnpackAnswer {
     Good,
     Malformed,
     WrongLength,
 }
 
 /// Unpacks into the whole of `dst`; a refused `dst` is left all zero.
-pub fn unpack_into(src: &[u8], dst: &mut [u8]) -> Answer {
+pub fn unpack_into(src: &[u8], dst: &mut [u8]) -> UnpackAnswer {
     let answer = write_unpacked(src, dst);
-    if answer != Answer::Good {
+    if answer != UnpackAnswer::Good {
         dst.fill(0);
     }
     answer
 }
 
 /// Writes what the source stands for, from the front of `dst` on.
-pub fn write_unpacked(mut src: &[u8], mut dst: &mut [u8]) -> Answer {
+pub fn write_unpacked(mut src: &[u8], mut dst: &mut [u8]) -> UnpackAnswer {
     loop {
         let (plain, codes) = src.split_at(plain_length(src));
         let Some((to, room)) = dst.split_at_mut_checked(plain.len()) else {
@@ -28,10 +28,10 @@ pub fn write_unpacked(mut src: &[u8], mut dst: &mut [u8]) -> Answer {
         };
         to.copy_from_slice(plain);
         let (count, byte, after) = match codes {
-            [] if room.is_empty() => return Answer::Good,
-            [] => return Answer::WrongLength,
+            [] if room.is_empty() => return UnpackAnswer::Good,
+            [] => return UnpackAnswer::WrongLength,
             [_, _, count @ 1..=255, byte, after @ ..] => (usize::from(*count), *byte, after),
-            _ => return Answer::Malformed,
+            _ => return UnpackAnswer::Malformed,
         };
         let Some((to, room)) = room.split_at_mut_checked(count) else {
             return without_room(after);
@@ -42,12 +42,12 @@ pub fn write_unpacked(mut src: &[u8], mut dst: &mut [u8]) -> Answer {
 }
 
 /// The answer where the part is too short and `src` is still unread.
-pub fn without_room(mut src: &[u8]) -> Answer {
+pub fn without_room(mut src: &[u8]) -> UnpackAnswer {
     loop {
         src = match &src[plain_length(src)..] {
-            [] => return Answer::WrongLength,
+            [] => return UnpackAnswer::WrongLength,
             [_, _, 1..=255, _, after @ ..] => after,
-            _ => return Answer::Malformed,
+            _ => return UnpackAnswer::Malformed,
         };
     }
 }
@@ -90,7 +90,7 @@ fn write_packed(src: &[u8], dst: &mut [u8]) -> Option<usize> {
 
 /// How often `src`, which is not empty, starts with its first byte, at most 255 times.
 fn run_length(src: &[u8]) -> usize {
-    let few = &src[..src.len().min(LONGEST)];
+    let few = &src[..src.len().min(LONGEST_RUN)];
     let other = few.iter().position(|b| *b != src[0]);
     other.unwrap_or(few.len())
 }

@@ -12,7 +12,7 @@ fn list(parts: &[(usize, u8)]) -> Vec<u8> {
 fn packs(parts: &[(usize, u8)], code: &[u8]) {
     let data = list(parts);
     assert_eq!(packed(&data), code);
-    assert_eq!(unpacked(code), Unpacked::Bytes(data));
+    assert_eq!(unpacked(code), UnpackedBytes::Bytes(data));
 }
 
 #[test]
@@ -63,7 +63,10 @@ fn p9_nothing() {
 
 #[test]
 fn p10_a_run_of_one() {
-    assert_eq!(unpacked(&[ED, ED, 1, 0x41]), Unpacked::Bytes(vec![0x41]));
+    assert_eq!(
+        unpacked(&[ED, ED, 1, 0x41]),
+        UnpackedBytes::Bytes(vec![0x41])
+    );
 }
 
 #[test]
@@ -74,17 +77,17 @@ fn p11_malformed() {
         &[ED, ED],
         &[ED, ED, 0],
     ] {
-        assert_eq!(unpacked(code), Unpacked::Malformed);
+        assert_eq!(unpacked(code), UnpackedBytes::Malformed);
     }
 }
 
-fn check_unpack_into<F: Form>(code: &[u8], length: usize) {
+fn check_unpack_into<F: PackingForm>(code: &[u8], length: usize) {
     let mut part = vec![0xA5; length];
     let answer = F::unpack_into(code, &mut part);
     let (expected, bytes) = match unpacked(code) {
-        Unpacked::Malformed => (Answer::Malformed, vec![0; length]),
-        Unpacked::Bytes(bytes) if bytes.len() == length => (Answer::Good, bytes),
-        Unpacked::Bytes(_) => (Answer::WrongLength, vec![0; length]),
+        UnpackedBytes::Malformed => (UnpackAnswer::Malformed, vec![0; length]),
+        UnpackedBytes::Bytes(bytes) if bytes.len() == length => (UnpackAnswer::Good, bytes),
+        UnpackedBytes::Bytes(_) => (UnpackAnswer::WrongLength, vec![0; length]),
     };
     assert_eq!(
         (answer, part),
@@ -93,7 +96,7 @@ fn check_unpack_into<F: Form>(code: &[u8], length: usize) {
     );
 }
 
-fn check_pack_into<F: Form>(data: &[u8], length: usize) {
+fn check_pack_into<F: PackingForm>(data: &[u8], length: usize) {
     let mut part = vec![0xA5; length];
     let answer = F::pack_into(data, &mut part);
     let mut bytes = packed(data);
@@ -109,7 +112,7 @@ fn check_pack_into<F: Form>(data: &[u8], length: usize) {
     );
 }
 
-fn check_form<F: Form>() {
+fn check_form<F: PackingForm>() {
     let mut rng = Rng::new(1);
     for case in 0..60_000 {
         let longest = if case % 8 == 0 { 300 } else { 9 };
@@ -123,8 +126,8 @@ fn check_form<F: Form>() {
             codes.truncate(rng.below(codes.len() + 1));
         }
         let full = match unpacked(&codes) {
-            Unpacked::Bytes(bytes) => bytes.len(),
-            Unpacked::Malformed => rng.below(600),
+            UnpackedBytes::Bytes(bytes) => bytes.len(),
+            UnpackedBytes::Malformed => rng.below(600),
         };
         for length in [full, full + 1, full.saturating_sub(1), rng.below(full + 1)] {
             check_unpack_into::<F>(&codes, length);

@@ -5,11 +5,11 @@ use super::read::{next_block, split, V1_PAGES};
 use super::{BLOCK_HEAD, PLAIN};
 use crate::machine::{flags, from_header, header, own_header, Machine, Model, Version, HEADER};
 use crate::memory::{MEMORY, PAGE};
-use crate::packing::{Answer, Form};
+use crate::packing::{PackingForm, UnpackAnswer};
 use crate::refusal::{number, Refusal};
 
 /// `read_bytes` of the plain form.
-pub fn read_bytes<F: Form>(file: &[u8], area: &mut [u8], header_bytes: &mut [u8]) -> u32 {
+pub fn read_bytes<F: PackingForm>(file: &[u8], area: &mut [u8], header_bytes: &mut [u8]) -> u32 {
     if header_bytes.len() != HEADER {
         area.fill(0);
         header_bytes.fill(0);
@@ -27,7 +27,7 @@ pub fn read_bytes<F: Form>(file: &[u8], area: &mut [u8], header_bytes: &mut [u8]
     number(&result)
 }
 
-fn read_into<F: Form>(file: &[u8], area: &mut [u8]) -> Result<Machine, Refusal> {
+fn read_into<F: PackingForm>(file: &[u8], area: &mut [u8]) -> Result<Machine, Refusal> {
     if area.len() != MEMORY {
         return Err(Refusal::ReadArea);
     }
@@ -41,7 +41,7 @@ fn read_into<F: Form>(file: &[u8], area: &mut [u8]) -> Result<Machine, Refusal> 
     Ok(machine)
 }
 
-fn read_v1<F: Form>(is_packed: bool, body: &[u8], area: &mut [u8]) -> Result<(), Refusal> {
+fn read_v1<F: PackingForm>(is_packed: bool, body: &[u8], area: &mut [u8]) -> Result<(), Refusal> {
     let mut unpacked;
     let bytes = if is_packed {
         let code = body.strip_suffix(&[0x00, 0xED, 0xED, 0x00]);
@@ -61,7 +61,11 @@ fn read_v1<F: Form>(is_packed: bool, body: &[u8], area: &mut [u8]) -> Result<(),
     Ok(())
 }
 
-fn read_blocks<F: Form>(model: Model, mut body: &[u8], area: &mut [u8]) -> Result<(), Refusal> {
+fn read_blocks<F: PackingForm>(
+    model: Model,
+    mut body: &[u8],
+    area: &mut [u8],
+) -> Result<(), Refusal> {
     let blocks = Machine::blocks(model);
     let (mut seen, mut count) = ([false; 8], 0);
     while !body.is_empty() {
@@ -83,16 +87,21 @@ fn read_blocks<F: Form>(model: Model, mut body: &[u8], area: &mut [u8]) -> Resul
     Ok(())
 }
 
-fn accept(answer: Answer) -> Result<(), Refusal> {
+fn accept(answer: UnpackAnswer) -> Result<(), Refusal> {
     match answer {
-        Answer::Good => Ok(()),
-        Answer::Malformed => Err(Refusal::Malformed),
-        Answer::WrongLength => Err(Refusal::UnpackedLength),
+        UnpackAnswer::Good => Ok(()),
+        UnpackAnswer::Malformed => Err(Refusal::Malformed),
+        UnpackAnswer::WrongLength => Err(Refusal::UnpackedLength),
     }
 }
 
 /// `write_bytes` of the plain form.
-pub fn write_bytes<F: Form>(header: &[u8], area: &[u8], out: &mut [u8], length: &mut u64) -> u32 {
+pub fn write_bytes<F: PackingForm>(
+    header: &[u8],
+    area: &[u8],
+    out: &mut [u8],
+    length: &mut u64,
+) -> u32 {
     let result = write_into::<F>(header, area, out);
     let end = *result.as_ref().unwrap_or(&0);
     out[end..].fill(0);
@@ -100,7 +109,11 @@ pub fn write_bytes<F: Form>(header: &[u8], area: &[u8], out: &mut [u8], length: 
     number(&result)
 }
 
-fn write_into<F: Form>(header: &[u8], area: &[u8], out: &mut [u8]) -> Result<usize, Refusal> {
+fn write_into<F: PackingForm>(
+    header: &[u8],
+    area: &[u8],
+    out: &mut [u8],
+) -> Result<usize, Refusal> {
     let machine = own_header(header).ok_or(Refusal::Machine)?;
     if area.len() != MEMORY {
         return Err(Refusal::Area);
@@ -117,7 +130,7 @@ fn write_into<F: Form>(header: &[u8], area: &[u8], out: &mut [u8]) -> Result<usi
 }
 
 /// Writes a block to the front of `out`; its length with the head, or nothing if it does not fit.
-fn write_block<F: Form>(number: u8, bytes: &[u8], out: &mut [u8]) -> Option<usize> {
+fn write_block<F: PackingForm>(number: u8, bytes: &[u8], out: &mut [u8]) -> Option<usize> {
     let (head, room) = out.split_at_mut_checked(BLOCK_HEAD)?;
     let shorter = room.len().min(PAGE - 1);
     let (length, taken) = match F::pack_into(bytes, &mut room[..shorter]) {

@@ -3,7 +3,7 @@
 use super::{BLOCK_HEAD, PLAIN};
 use crate::machine::{flags, from_header, Machine, Model, Version};
 use crate::memory::{MEMORY, PAGE};
-use crate::packing::{unpacked, Unpacked};
+use crate::packing::{unpacked, UnpackedBytes};
 use crate::refusal::Refusal;
 
 /// The RAM pages of a v1 body, from 4000 upwards.
@@ -63,8 +63,8 @@ fn v1_memory(is_packed: bool, body: &[u8]) -> Result<Vec<u8>, Refusal> {
 
 fn unpack(code: &[u8]) -> Result<Vec<u8>, Refusal> {
     match unpacked(code) {
-        Unpacked::Malformed => Err(Refusal::Malformed),
-        Unpacked::Bytes(bytes) => Ok(bytes),
+        UnpackedBytes::Malformed => Err(Refusal::Malformed),
+        UnpackedBytes::Bytes(bytes) => Ok(bytes),
     }
 }
 
@@ -93,14 +93,14 @@ fn block_memory(model: Model, mut body: &[u8]) -> Result<Vec<u8>, Refusal> {
 }
 
 /// A block, and the bytes after it.
-pub struct Block<'a> {
+pub struct StoredBlock<'a> {
     pub length: u16,
     pub number: u8,
     pub data: &'a [u8],
     pub after: &'a [u8],
 }
 
-impl Block<'_> {
+impl StoredBlock<'_> {
     /// The RAM page of a block number that is one of the model's and was not seen before.
     pub fn page(&self, blocks: &[(u8, usize)], seen: &[bool; 8]) -> Result<usize, Refusal> {
         let page = blocks.iter().find(|(number, _)| *number == self.number);
@@ -112,7 +112,7 @@ impl Block<'_> {
     }
 }
 
-pub fn next_block(body: &[u8]) -> Result<Block<'_>, Refusal> {
+pub fn next_block(body: &[u8]) -> Result<StoredBlock<'_>, Refusal> {
     if body.len() < BLOCK_HEAD {
         return Err(Refusal::CutBlock);
     }
@@ -124,7 +124,7 @@ pub fn next_block(body: &[u8]) -> Result<Block<'_>, Refusal> {
     };
     let split = rest.split_at_checked(bytes);
     let (data, after) = split.ok_or(Refusal::CutBlock)?;
-    Ok(Block {
+    Ok(StoredBlock {
         length,
         number: head[2],
         data,

@@ -2,13 +2,13 @@
 //! with plain stretches copied, and plain steps of 8, 16 and 32 copied along.
 
 use super::words::{every, lowest, word, zero_bytes};
-use crate::packing::{ED, LONGEST};
+use crate::packing::{ED, LONGEST_RUN};
 
 /// Source bytes copied and looked at in one step.
-const STEP: usize = 16;
+const STRIDE: usize = 16;
 
 /// A step and the bytes after it that show whether a run starts in it.
-const AHEAD: usize = STEP + 4;
+const AHEAD: usize = STRIDE + 4;
 
 /// Packs into the front of `dst`, zeros after; `None` and all zeros if it does not fit.
 pub fn pack_into(src: &[u8], dst: &mut [u8]) -> Option<usize> {
@@ -24,11 +24,11 @@ fn write_packed(src: &[u8], dst: &mut [u8]) -> Option<usize> {
         src[at..].first_chunk::<AHEAD>(),
         dst[out..].first_chunk_mut::<AHEAD>(),
     ) {
-        to[..STEP].copy_from_slice(&chunk[..STEP]);
+        to[..STRIDE].copy_from_slice(&chunk[..STRIDE]);
         let plain = find_stop(chunk);
         at += plain;
         out += plain;
-        if plain == STEP {
+        if plain == STRIDE {
             continue;
         }
         let byte = chunk[plain];
@@ -46,7 +46,7 @@ fn write_packed(src: &[u8], dst: &mut [u8]) -> Option<usize> {
     write_end(&src[at..], dst, out)
 }
 
-/// Where the step has its first ED or start of five equal bytes, or STEP.
+/// Where the step has its first ED or start of five equal bytes, or STRIDE.
 #[inline]
 fn find_stop(chunk: &[u8; AHEAD]) -> usize {
     for at in [0, 8] {
@@ -58,7 +58,7 @@ fn find_stop(chunk: &[u8; AHEAD]) -> usize {
             return at + lowest(marks);
         }
     }
-    STEP
+    STRIDE
 }
 
 /// How often `src` starts with `byte`, at most 255 times.
@@ -68,14 +68,14 @@ fn run_length(src: &[u8], byte: u8) -> usize {
     while let Some(chunk) = src[run..].first_chunk::<8>() {
         let differs = word(chunk, 0) ^ every(byte);
         if differs != 0 {
-            return LONGEST.min(run + lowest(differs));
+            return LONGEST_RUN.min(run + lowest(differs));
         }
         run += 8;
-        if run >= LONGEST {
-            return LONGEST;
+        if run >= LONGEST_RUN {
+            return LONGEST_RUN;
         }
     }
-    let rest = src[run..].iter().take(LONGEST - run);
+    let rest = src[run..].iter().take(LONGEST_RUN - run);
     run + rest.take_while(|b| **b == byte).count()
 }
 

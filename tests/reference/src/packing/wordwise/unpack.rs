@@ -3,37 +3,37 @@
 
 use super::words::{every, lowest, word, zero_bytes};
 use crate::packing::sliced::{without_room, write_unpacked as write_unpacked_plainly};
-use crate::packing::{Answer, ED};
+use crate::packing::{UnpackAnswer, ED};
 
 /// Source bytes copied and looked at in one step.
-const STEP: usize = 16;
+const STRIDE: usize = 16;
 
 /// A run of up to this many bytes is written as a block of this many.
 const SHORT: usize = 32;
 
 /// Unpacks into the whole of `dst`; a refused `dst` is left all zero.
-pub fn unpack_into(src: &[u8], dst: &mut [u8]) -> Answer {
+pub fn unpack_into(src: &[u8], dst: &mut [u8]) -> UnpackAnswer {
     let answer = write_unpacked(src, dst);
-    if answer != Answer::Good {
+    if answer != UnpackAnswer::Good {
         dst.fill(0);
     }
     answer
 }
 
 /// Writes steps and short runs as whole blocks: what is too much is written over.
-fn write_unpacked(mut src: &[u8], mut dst: &mut [u8]) -> Answer {
+fn write_unpacked(mut src: &[u8], mut dst: &mut [u8]) -> UnpackAnswer {
     while let (Some(chunk), Some(to)) = (
-        src.first_chunk::<{ STEP + 1 }>(),
-        dst.first_chunk_mut::<{ STEP + SHORT }>(),
+        src.first_chunk::<{ STRIDE + 1 }>(),
+        dst.first_chunk_mut::<{ STRIDE + SHORT }>(),
     ) {
-        to[..STEP].copy_from_slice(&chunk[..STEP]);
+        to[..STRIDE].copy_from_slice(&chunk[..STRIDE]);
         let plain = find_code(chunk);
-        if plain == STEP {
-            (src, dst) = (&src[STEP..], &mut dst[STEP..]);
+        if plain == STRIDE {
+            (src, dst) = (&src[STRIDE..], &mut dst[STRIDE..]);
             continue;
         }
         let [_, _, count @ 1..=255, byte, after @ ..] = &src[plain..] else {
-            return Answer::Malformed;
+            return UnpackAnswer::Malformed;
         };
         let (count, room) = (usize::from(*count), &mut dst[plain..]);
         if count <= SHORT {
@@ -48,9 +48,9 @@ fn write_unpacked(mut src: &[u8], mut dst: &mut [u8]) -> Answer {
     write_unpacked_plainly(src, dst)
 }
 
-/// Where ED ED starts in the step, or STEP if it does not.
+/// Where ED ED starts in the step, or STRIDE if it does not.
 #[inline]
-fn find_code(chunk: &[u8; STEP + 1]) -> usize {
+fn find_code(chunk: &[u8; STRIDE + 1]) -> usize {
     for at in [0, 8] {
         let (first, second) = (word(chunk, at), word(chunk, at + 1));
         let marks = zero_bytes((first ^ every(ED)) | (second ^ every(ED)));
@@ -58,5 +58,5 @@ fn find_code(chunk: &[u8; STEP + 1]) -> usize {
             return at + lowest(marks);
         }
     }
-    STEP
+    STRIDE
 }
