@@ -53,7 +53,7 @@ module _ (number : ℕ) (s d₀ : List ℕ) (h : length s ≡ 16384) where
   no-head d k w = packs-over (blockFor number s) (length d₀) d (omega (arith, block-size number s)) w
 
   -- the page packed into the part from 3 on, of m bytes
-  module _ (r : Fit) (l : List ℕ) (m : ℕ) (k : 3 ≤ length d₀) (e : m ≡ min (length d₀ - 3) 16383) (w : Packs (packed s) (length (midOf 3 (3 + m - 3) d₀)) r l) where
+  module _ (r : Fit) (l : List ℕ) (m most : ℕ) (k : 3 ≤ length d₀) (e : m ≡ min (length d₀ - 3) most) (w : Packs (packed s) (length (midOf 3 (3 + m - 3) d₀)) r l) where
     data-room : length (midOf 3 (3 + m - 3) d₀) ≡ m
     data-room = mid-len 3 (3 + m) d₀ (omega arith) ∙ (omega arith)
 
@@ -79,9 +79,9 @@ module _ (number : ℕ) (s d₀ : List ℕ) (h : length s ≡ 16384) where
     pub packed-room : (n : ℕ) → r ≡ Length n → n ≤ m
     packed-room n q = let f = data-in-room n q in f .room
 
-    pub laid-packed : (n : ℕ) (d₂ d : List ℕ) → r ≡ Length n → d₂ ≡ n % 256 ∷ n / 256 ∷ number ∷ drop 3 with-packed
+    pub laid-packed : most ≡ 16383 → (n : ℕ) (d₂ d : List ℕ) → r ≡ Length n → d₂ ≡ n % 256 ∷ n / 256 ∷ number ∷ drop 3 with-packed
         → d ≡ take (3 + m) d₂ ++ replicate (length d₂ - (3 + m)) 0 → Packs (blockFor number s) (length d₀) (Length (3 + n)) d
-    laid-packed n d₂ d q x y =
+    laid-packed c n d₂ d q x y =
         let f = data-in-room n q in
         let ws = n % 256 ∷ n / 256 ∷ number ∷ [] in
         let p = m - length (packed s) in
@@ -102,7 +102,7 @@ module _ (number : ℕ) (s d₀ : List ℕ) (h : length s ≡ 16384) where
         ∙ ap (λ (o : List ℕ). blockFor number s ++ o) (replicate-append-replicate p (length d₂ - (3 + m)) 0 ∙ ap (λ (j : ℕ). replicate j 0) z))
 
     -- not packed into 16,383 bytes
-    module _ (q : r ≡ TooShort) where
+    module _ (c : most ≡ 16383) (q : r ≡ TooShort) where
       pub no-block : (d : List ℕ) → length d₀ - 3 < 16384 → d ≡ replicate (length with-packed) 0 → Packs (blockFor number s) (length d₀) TooShort d
       no-block d j y =
           let f = no-fit q in

@@ -2,6 +2,7 @@ use denote.Ref.{now}
 use Rattle.block_write.proofs.BlockWritten.{no-head, packed-room, laid-packed, no-block, laid-plain}
 use Prim.Native.Nat.{_≤_}
 use native.Mathlib.Omega.{arith}
+use mathlib.Core.Path.{refl}
 use borrow.Author.Needs.{needs}
 use Rattle.block_write.proofs.write_block.Statement.{statement}
 use Rattle.block_write.proofs.write_block.Tie as tie
@@ -53,7 +54,7 @@ same-length-2 c = search needs
 
 returns-2 : tie.Need-returns-2
 returns-2 c =
-    laid-packed _ _ (now (c .before .before .before .before .before .before .before .before .before .before .before .before .before .before .before .before .before .before .before .args .out)) (c .before .before .before .before .before .before .before .before .before .before .before .before .before .before .before .before .before .before .before .pre) _ _ _ (search needs) (c .before .before .before .before .before .before .before .before .before .before .before .before .before .before .before .least .ensures) (c .before .before .before .before .before .before .before .before .before .before .before .before .before .pack .ensures) _ _ _ (c .before .before .before .before .before .before .before .before .before .fit .given .1) (c .before .before .before .before .before .before .put-head .ensures) (c .before .before .clear-from .ensures)
+    laid-packed _ _ (now (c .before .before .before .before .before .before .before .before .before .before .before .before .before .before .before .before .before .before .before .args .out)) (c .before .before .before .before .before .before .before .before .before .before .before .before .before .before .before .before .before .before .before .pre) _ _ _ _ (search needs) (c .before .before .before .before .before .before .before .before .before .before .before .before .before .before .before .least .ensures) (c .before .before .before .before .before .before .before .before .before .before .before .before .before .pack .ensures) refl _ _ _ (c .before .before .before .before .before .before .before .before .before .fit .given .1) (c .before .before .before .before .before .before .put-head .ensures) (c .before .before .clear-from .ensures)
 
 enum-told : tie.Need-enum-told
 enum-told c = search needs

@@ -83,7 +83,11 @@ same-length : tie.Need-same-length Inv-loop μ-loop
 same-length c = search needs
 
 returns : tie.Need-returns Inv-loop μ-loop
-returns c = search going-over
+returns c =
+    let b = c .before .before .before .before .before .before .before .before in
+    going-over _ _ _ _ _ _ (b .before .before .before .before .before .before .before .loop .inv) _ (b .before .before .before .before .before .before .before .before .count .ensures) (b .before .before .before .before .before .before .loop-test .taken)
+    (b .before .before .before .before .before .before .before .before .before .before .before .pre) _ (b .before .before .before .before .before .slot-at .ensures) _ (b .before .before .before .least .ensures) _ _ (b .write-block .ensures)
+    (c .before .before .before .before .enum-told .given .1) _ (c .before .before .fill .ensures)
 
 clear-from-requires : tie.Need-clear-from-requires Inv-loop μ-loop
 clear-from-requires c κs = search needs
