@@ -22,7 +22,7 @@ use Rattle.block_pages.specs.declared.Page.the-variants.{At, NoPage}
 use Rattle.slices.specs.Bytes.{wordAt}
 use Rattle.block_read.specs.declared.BlockHead.{BlockHead}
 use Rattle.block_read.specs.declared.BlockHead.the-variants.{Bad, Data}
-use Rattle.block_read.specs.Block.{sizeOf, contents, onPage, pageFrom, blockOf}
+use Rattle.block_read.specs.Block.{refused, sizeOf, contents, onPage, pageFrom, blockOf}
 use Rattle.block_pages.specs.Numbered.{pageOf}
 use Rattle.block_pages.proofs.BlockNumbers.{page-owned}
 use Rattle.block_read.specs.Inner.{Fills, headOn, headAt, Refuses}
@@ -42,19 +42,15 @@ HeadSays model seen file at (Data page start end plain) = BlockAt model seen fil
 pub page-small : (k : Model) (n : ℕ) (f : Page) (p : ℕ) → f ≡ pageOf k n → f ≡ At p → p < 8
 page-small k n f p e h = owned-small k p (page-owned k n p (sym e ∙ h))
 
-word-drop : (file : List ℕ) (at n : ℕ) → n ≡ getD file at 0 + 256 * getD file (at + 1) 0 → wordAt (drop at file) 0 ≡ n
-word-drop file at n e =
+word-drop : (file : List ℕ) (at : ℕ) → wordAt (drop at file) 0 ≡ wordAt file at
+word-drop file at =
     let z : at + 0 ≡ at = omega arith in
-    rw (getD-drop at file 0 0, getD-drop at file 1 0, z) (sym e)
+    rw (getD-drop at file 0 0, getD-drop at file 1 0, z)
 
 module _ (model : Model) (seen : List Bool) (file : List ℕ) (at : ℕ) where
   pub head-short : length file - at < 3 → Bad BlockCut ≡ headAt model seen file at
   unfolding headAt
   head-short h = rw (lt-ltb _ _ h)
-
-  block-short : length file - at < 3 → Refuses model seen file at BlockCut
-  unfolding blockOf
-  block-short h = record { block = rw (length-drop at file, lt-ltb _ _ h) }
 
   module _ (n size : ℕ) (h : 3 ≤ length file - at) (en : n ≡ getD file at 0 + 256 * getD file (at + 1) 0) (es : size ≡ sizeOf n) where
     pub head-cut : length file - at - 3 < size → Bad BlockCut ≡ headAt model seen file at
@@ -76,65 +72,52 @@ module _ (model : Model) (seen : List Bool) (file : List ℕ) (at : ℕ) where
         → Data p (at + 3) (at + 3 + size) (eqb n 65535) ≡ headAt model seen file at
     head-data f p g e z s = sym (head-opened g ∙ rw (← e, z, s))
 
-    block-cut : length file - at - 3 < size → Refuses model seen file at BlockCut
-    unfolding blockOf
-    block-cut l = let g : length file - at < 3 + size = omega arith in record { block = rw (length-drop at file, le-ltb _ _ h, word-drop file at n en, ← es, lt-ltb _ _ g) }
-
-    block-data : size ≤ length file - at - 3
-        → blockOf model seen (drop at file)
-        ≡ onPage (pageOf model (getD file (at + 2) 0)) seen (contents (eqb n 65535) (take size (drop (at + 3) file))) (drop (at + (3 + size)) file)
-    unfolding blockOf
-    block-data l = let g : 3 + size ≤ length file - at = omega arith in rw (length-drop at file, le-ltb _ _ h, word-drop file at n en, ← es, le-ltb _ _ g, getD-drop at file 2 0, drop-drop 3 at file, drop-drop (3 + size) at file)
-
-    block-nowhere : (f : Page) → size ≤ length file - at - 3 → f ≡ pageOf model (getD file (at + 2) 0) → f ≡ NoPage → Refuses model seen file at BlockNumber
-    block-nowhere f g e z = record { block = block-data g ∙ rw (← e, z) }
-
-    block-twice : (f : Page) (p : ℕ) → size ≤ length file - at - 3 → f ≡ pageOf model (getD file (at + 2) 0) → f ≡ At p → getD seen p false ≡ true → Refuses model seen file at BlockTwice
-    block-twice f p g e z s = record { block = block-data g ∙ rw (← e, z, s) }
-
-    block-there : (f : Page) (p : ℕ) → at < length file → size ≤ length file - at - 3 → f ≡ pageOf model (getD file (at + 2) 0) → f ≡ At p → getD seen p false ≡ false
-        → BlockAt model seen file at p (at + 3) (at + 3 + size) (eqb n 65535)
-    block-there f p l g e z s =
-        let a : at + (3 + size) ≡ at + 3 + size = omega arith in
-        let b : at + 3 + size - (at + 3) ≡ size = omega arith in
-        record {
-          block = block-data g ∙ rw (← e, z, s, a, b);
-          page-small = page-small model _ f p e z;
-          further = omega arith;
-          ordered = omega arith;
-          within = omega arith;
-        }
+  -- the block, with the file's own bytes in its tests
+  block-tests : blockOf model seen (drop at file)
+      ≡ choose (ltb (length file - at) 3) (refused BlockCut)
+      (choose (ltb (length file - at) (3 + sizeOf (wordAt file at))) (refused BlockCut)
+      (onPage (pageOf model (getD file (at + 2) 0)) seen
+      (contents (eqb (wordAt file at) 65535) (take (sizeOf (wordAt file at)) (drop (at + 3) file)))
+      (drop (at + (3 + sizeOf (wordAt file at))) file)))
+  unfolding blockOf
+  block-tests = rw (length-drop at file, word-drop file at, getD-drop at file 2 0, drop-drop 3 at file, drop-drop (3 + sizeOf (wordAt file at)) at file)
 
   -- what the head tells of the block
   pub head-says : (r : BlockHead) → at < length file → r ≡ headAt model seen file at → HeadSays model seen file at r
   unfolding headAt
   head-says r l e = subst (HeadSays model seen file at) (sym e) (first (ltb (length file - at) 3) refl)
     where
-      n : ℕ
-      n = wordAt file at
+      size : ℕ
+      size = sizeOf (wordAt file at)
 
-      on : (h : 3 ≤ length file - at) (g : sizeOf n ≤ length file - at - 3) (f : Page) → f ≡ pageOf model (getD file (at + 2) 0)
-          → HeadSays model seen file at (headOn f seen (at + 3) (at + 3 + sizeOf n) (eqb n 65535))
-      on h g NoPage q = block-nowhere n (sizeOf n) h refl refl NoPage g q refl
-      on h g (At p) q = go (getD seen p false) refl
+      there : BlockHead
+      there = headOn (pageOf model (getD file (at + 2) 0)) seen (at + 3) (at + 3 + size) (eqb (wordAt file at) 65535)
+
+      third : 3 ≤ length file - at → size ≤ length file - at - 3 → (f : Page) → pageOf model (getD file (at + 2) 0) ≡ f
+          → HeadSays model seen file at (headOn f seen (at + 3) (at + 3 + size) (eqb (wordAt file at) 65535))
+      third h g NoPage q = record { block = block-tests ∙ rw (le-ltb _ _ h, le-ltb (length file - at) (3 + size) (omega arith), q) }
+      third h g (At p) q = go (getD seen p false) refl
         where
-          go : (b : Bool) → getD seen p false ≡ b → HeadSays model seen file at (choose b (Bad BlockTwice) (Data p (at + 3) (at + 3 + sizeOf n) (eqb n 65535)))
-          go true s = block-twice n (sizeOf n) h refl refl (At p) p g q refl s
-          go false s = block-there n (sizeOf n) h refl refl (At p) p l g q refl s
+          go : (b : Bool) → getD seen p false ≡ b → HeadSays model seen file at (choose b (Bad BlockTwice) (Data p (at + 3) (at + 3 + size) (eqb (wordAt file at) 65535)))
+          go true s = record { block = block-tests ∙ rw (le-ltb _ _ h, le-ltb (length file - at) (3 + size) (omega arith), q, s) }
+          go false s =
+              let a : at + (3 + size) ≡ at + 3 + size = omega arith in
+              let b : at + 3 + size - (at + 3) ≡ size = omega arith in
+              record {
+                block = block-tests ∙ rw (le-ltb _ _ h, le-ltb (length file - at) (3 + size) (omega arith), q, s, a, b);
+                page-small = page-small model _ (At p) p (sym q) refl;
+                further = omega arith;
+                ordered = omega arith;
+                within = omega arith;
+              }
 
-      second : 3 ≤ length file - at → (b : Bool) → ltb (length file - at - 3) (sizeOf n) ≡ b
-          → HeadSays model seen file at
-          (choose b (Bad BlockCut) (headOn (pageOf model (getD file (at + 2) 0)) seen (at + 3) (at + 3 + sizeOf n) (eqb n 65535)))
-      second h true t = block-cut n (sizeOf n) h refl refl (ltb-true _ _ t)
-      second h false t = on h (ltb-false _ _ t) (pageOf model (getD file (at + 2) 0)) refl
+      second : 3 ≤ length file - at → (b : Bool) → ltb (length file - at - 3) size ≡ b → HeadSays model seen file at (choose b (Bad BlockCut) there)
+      second h true t = let g : length file - at - 3 < size = ltb-true _ _ t in record { block = block-tests ∙ rw (le-ltb _ _ h, lt-ltb (length file - at) (3 + size) (omega arith)) }
+      second h false t = third h (ltb-false _ _ t) (pageOf model (getD file (at + 2) 0)) refl
 
-      first : (b : Bool) → ltb (length file - at) 3 ≡ b
-          → HeadSays model seen file at
-          (choose b (Bad BlockCut)
-          (choose (ltb (length file - at - 3) (sizeOf n)) (Bad BlockCut)
-          (headOn (pageOf model (getD file (at + 2) 0)) seen (at + 3) (at + 3 + sizeOf n) (eqb n 65535))))
-      first true t = block-short (ltb-true _ _ t)
-      first false t = second (ltb-false _ _ t) (ltb (length file - at - 3) (sizeOf n)) refl
+      first : (b : Bool) → ltb (length file - at) 3 ≡ b → HeadSays model seen file at (choose b (Bad BlockCut) (choose (ltb (length file - at - 3) size) (Bad BlockCut) there))
+      first true t = record { block = block-tests ∙ rw t }
+      first false t = second (ltb-false _ _ t) (ltb (length file - at - 3) size) refl
 
 -- a page from data as they are
 pub fills-plain : (plain : Bool) (src before after : List ℕ) → plain ≡ true → length src ≡ length before
