@@ -93,27 +93,29 @@ module _ (model : Model) (seen : List Bool) (file : List ℕ) (at : ℕ) where
       there : BlockHead
       there = headOn (pageOf model (getD file (at + 2) 0)) seen (at + 3) (at + 3 + size) (eqb (wordAt file at) 65535)
 
-      third : 3 ≤ length file - at → size ≤ length file - at - 3 → (f : Page) → pageOf model (getD file (at + 2) 0) ≡ f
+      third : 3 ≤ length file - at → ltb (length file - at) (3 + size) ≡ false → (f : Page) → pageOf model (getD file (at + 2) 0) ≡ f
           → HeadSays model seen file at (headOn f seen (at + 3) (at + 3 + size) (eqb (wordAt file at) 65535))
-      third h g NoPage q = record { block = block-tests ∙ rw (le-ltb _ _ h, le-ltb (length file - at) (3 + size) (omega arith), q) }
+      third h g NoPage q = record { block = block-tests ∙ rw (le-ltb _ _ h, g, q) }
       third h g (At p) q = go (getD seen p false) refl
         where
           go : (b : Bool) → getD seen p false ≡ b → HeadSays model seen file at (choose b (Bad BlockTwice) (Data p (at + 3) (at + 3 + size) (eqb (wordAt file at) 65535)))
-          go true s = record { block = block-tests ∙ rw (le-ltb _ _ h, le-ltb (length file - at) (3 + size) (omega arith), q, s) }
+          go true s = record { block = block-tests ∙ rw (le-ltb _ _ h, g, q, s) }
           go false s =
               let a : at + (3 + size) ≡ at + 3 + size = omega arith in
               let b : at + 3 + size - (at + 3) ≡ size = omega arith in
               record {
-                block = block-tests ∙ rw (le-ltb _ _ h, le-ltb (length file - at) (3 + size) (omega arith), q, s, a, b);
+                block = block-tests ∙ rw (le-ltb _ _ h, g, q, s, a, b);
                 page-small = page-small model _ (At p) p (sym q) refl;
                 further = omega arith;
                 ordered = omega arith;
-                within = omega arith;
+                within = omega (arith, ltb-false (length file - at) (3 + size) g);
               }
 
       second : 3 ≤ length file - at → (b : Bool) → ltb (length file - at - 3) size ≡ b → HeadSays model seen file at (choose b (Bad BlockCut) there)
       second h true t = let g : length file - at - 3 < size = ltb-true _ _ t in record { block = block-tests ∙ rw (le-ltb _ _ h, lt-ltb (length file - at) (3 + size) (omega arith)) }
-      second h false t = third h (ltb-false _ _ t) (pageOf model (getD file (at + 2) 0)) refl
+      second h false t =
+          let g : size ≤ length file - at - 3 = ltb-false _ _ t in
+          third h (le-ltb (length file - at) (3 + size) (omega arith)) (pageOf model (getD file (at + 2) 0)) refl
 
       first : (b : Bool) → ltb (length file - at) 3 ≡ b → HeadSays model seen file at (choose b (Bad BlockCut) (choose (ltb (length file - at - 3) size) (Bad BlockCut) there))
       first true t = record { block = block-tests ∙ rw t }

@@ -14,8 +14,7 @@ use Rattle.session.specs.Session.{Session, CallResult, started}
 use Rattle.journal.specs.Journal.{journalCall}
 use Rattle.claim.specs.Claim.{ValidStart, TypedCalls, runAfter, runAnswers}
 use Rattle.claim.proofs.Claim.{claim, start-after}
-use Rattle.journal_bytes.specs.Calls.{Buffers, Answered, answeredBy, onDecoded, overBytes, snapCall}
-use Rattle.journal_bytes.specs.Calls.{sessionBytes}
+use Rattle.journal_bytes.specs.Calls.{Buffers, Answered, sessionBytes, answeredBy, onDecoded, overBytes, snapCall}
 use Rattle.server.specs.Server.{runBuffers, runNumbers, startedBuffers, HistoryBytes, ByteClaimOf}
 
 -- a call over the bytes of a session with a valid machine is the call on the session

@@ -3,8 +3,8 @@ ghost use lib.ListN.{length};
 ghost use Rattle.journal_bytes.specs.Calls.{buffersOut};
 ghost use Rattle.server_files.specs.Opened.{ServesFile};
 
-// A file read by the exported function, then every call of a list: where the file is accepted, all is the paper bench's from the machine and
-// memory that it gives.
+// A file read by the exported function, then every call of a list: where the file is accepted, all is the paper bench's from the
+// machine and memory that it gives.
 pub fn serve_file(
     file: &[u8],
     head: &mut [u8],

@@ -13,8 +13,7 @@ use Rattle.session.specs.declared.Done.{Done}
 use Rattle.log_steps.specs.Steps.{stepAt}
 use Rattle.step_places.specs.Pointed.{present, placed, intact}
 use Rattle.session.specs.Session.{sessionOn, resultOf}
-use Rattle.session.proofs.Given.{on}
-use Rattle.session.proofs.Given.{refusedDone}
+use Rattle.session.proofs.Given.{on, refusedDone}
 use Rattle.undo.specs.Undo.{moved, undoOf, redoOf}
 
 pub total-kept : (n next : Counts) (k : ℕ) → next ≡ record { standing = k; total = n .total } → next .total ≡ n .total
