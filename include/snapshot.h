@@ -1,5 +1,5 @@
 /*
- * snapshot.h: saved Spectrums (.Z80 files) read, viewed, corrected and written.
+ * snapshot.h: saved Spectrums (.Z80 files, and SCS files of the Sam emulator) read, viewed, corrected and written.
  *
  * Answers: every function but snap_version and snap_sentence answers a number of `enum snap_number`, SNAP_ACCEPTED (0) or
  * why it refused. None trusts its caller: each takes every length and every byte, and every byte of the buffers lent to it
@@ -28,8 +28,8 @@ extern "C" {
 #endif
 
 /* The version of this header, 10000 * major + 100 * minor + patch; snap_version answers the linked library's. */
-#define SNAP_VERSION 200u
-#define SNAP_VERSION_TEXT "0.2.0"
+#define SNAP_VERSION 300u
+#define SNAP_VERSION_TEXT "0.3.0"
 
 /* Sizes in bytes. RAM pages 0 to 7 lie in the area in that order. */
 #define SNAP_PAGE_SIZE 16384u
@@ -40,8 +40,11 @@ extern "C" {
 #define SNAP_HEADER_SIZE 86u
 /* No written file is longer. */
 #define SNAP_FILE_MOST 131182u
-/* No file that reading accepts is longer: 86 bytes and eight blocks of 3 and at most 65,534. */
+/* No .Z80 file that reading accepts is longer: 86 bytes and eight blocks of 3 and at most 65,534. */
 #define SNAP_READ_MOST 524382u
+/* The SCS file of a 48K and of a 128K machine as it is written. One that is read may have any length. */
+#define SNAP_SCS_FILE_48K 49240u
+#define SNAP_SCS_FILE_128K 131160u
 /* A log: so many bytes hold a step (`enum snap_step` names them), and no more steps than these are used. */
 #define SNAP_LOG_STEP 11u
 #define SNAP_LOG_STEPS 4096u
@@ -155,7 +158,12 @@ enum snap_number {
     SNAP_PAGE_NOT_OWNED = 30,
     SNAP_ROM_LENGTH = 31,
     /* a register pair told or corrected */
-    SNAP_PAIR_NUMBER = 32
+    SNAP_PAIR_NUMBER = 32,
+    /* reading SCS files, beside 1, 2, 5 and 8 */
+    SNAP_SCS_HEADER = 40,
+    SNAP_SCS_BLOCK_MISSING = 41,
+    SNAP_SCS_BLOCK_TWICE = 42,
+    SNAP_SCS_MEMORY_NOT_FIRST = 43
 };
 
 /* A sentence for a number, on one line, without a full stop; never NULL. */
@@ -190,6 +198,10 @@ static inline const char *snap_sentence(uint32_t number)
     case SNAP_PAGE_NOT_OWNED: return "the machine does not have this page";
     case SNAP_ROM_LENGTH: return "the ROM is not 16,384 bytes for a 48K or 32,768 for a 128K";
     case SNAP_PAIR_NUMBER: return "there is no register pair with this number";
+    case SNAP_SCS_HEADER: return "the file is no SCS file of a 48K or 128K Spectrum";
+    case SNAP_SCS_BLOCK_MISSING: return "the CPU block or the Ports block is missing";
+    case SNAP_SCS_BLOCK_TWICE: return "the CPU, Ports or Memory block comes twice";
+    case SNAP_SCS_MEMORY_NOT_FIRST: return "the first block is not the Memory block";
     default: return "no number of this library";
     }
 }
@@ -213,6 +225,26 @@ uint32_t snap_z80_read(const uint8_t *file, size_t file_len,
  * Pages that the machine does not own are not looked at: what stands there is not in the file, and is zero when it is read.
  */
 uint32_t snap_z80_write(const uint8_t *header, size_t header_len,
+                        const uint8_t *area, size_t area_len,
+                        uint8_t *out, size_t out_len,
+                        uint64_t *length);
+
+/*
+ * Reads an SCS file with a 48K or 128K Spectrum inside, already unwrapped (one that is still gzip is 40, or 2), into the
+ * machine's header and area as snap_z80_read does. What SCS does not hold is as from a v1 file: no attachment, position 0.
+ * Refused, in this order: 20 for a header buffer of another length, 1 area, 2 under 15 bytes, 40, 43, block by block 8 then
+ * 42, then 41, last 5; then area and header are as after a refused snap_z80_read.
+ */
+uint32_t snap_scs_read(const uint8_t *file, size_t file_len,
+                       uint8_t *area, size_t area_len,
+                       uint8_t *header, size_t header_len);
+
+/*
+ * Writes the one SCS file of a machine and its memory, SNAP_SCS_FILE_48K or SNAP_SCS_FILE_128K bytes; all else as in
+ * snap_z80_write. SCS holds less than a machine is: read back, the attachment, the bytes 36 and 37, the clock's place, the
+ * side bytes, bits 2 to 7 of byte 29 and the upper four bits of the last OUT to FFFD are as from a v1 file.
+ */
+uint32_t snap_scs_write(const uint8_t *header, size_t header_len,
                         const uint8_t *area, size_t area_len,
                         uint8_t *out, size_t out_len,
                         uint64_t *length);
