@@ -4,7 +4,7 @@ use mathlib.Core.Path.{_≡_, refl}
 use mathlib.Core.Bool.{Bool, true, false}
 use native.Mathlib.Omega.{arith}
 use Rattle.numbers.specs.declared.Refusal.{Refusal}
-use Rattle.numbers.specs.declared.Refusal.the-variants.{AreaLength, FileShort, UnknownVersion, ModeNotCarried, InterruptMode, CounterRange, Byte60, BlockCut, BlockNumber, BlockTwice, MalformedData, UnpackedLength, BlockMissing, EndMarker, InvalidMachine, MemoryLength, OutputShort, RomAddress, OutOn48k, PagingLocked, JournalFull, NothingToMove, StepDamaged, CountsDisagree, PageNotOwned, RomLength, PairNumber}
+use Rattle.numbers.specs.declared.Refusal.the-variants.{AreaLength, FileShort, UnknownVersion, ModeNotCarried, InterruptMode, CounterRange, Byte60, BlockCut, BlockNumber, BlockTwice, MalformedData, UnpackedLength, BlockMissing, EndMarker, InvalidMachine, MemoryLength, OutputShort, RomAddress, OutOn48k, PagingLocked, JournalFull, NothingToMove, StepDamaged, CountsDisagree, PageNotOwned, RomLength, PairNumber, ScsHeader, ScsBlockMissing, ScsBlockTwice, ScsMemoryNotFirst}
 use Rattle.numbers.specs.declared.Answer.{Answer}
 use Rattle.numbers.specs.declared.Answer.the-variants.{Accepted, Refused}
 use Rattle.numbers.specs.Numbers.{refusalNumber, numberOf, refuse}
@@ -38,6 +38,10 @@ number-in CountsDisagree = (omega arith, omega arith)
 number-in PageNotOwned = (omega arith, omega arith)
 number-in RomLength = (omega arith, omega arith)
 number-in PairNumber = (omega arith, omega arith)
+number-in ScsHeader = (omega arith, omega arith)
+number-in ScsBlockMissing = (omega arith, omega arith)
+number-in ScsBlockTwice = (omega arith, omega arith)
+number-in ScsMemoryNotFirst = (omega arith, omega arith)
 
 pub number-0 : (a : Answer) → numberOf a ≡ 0 → a ≡ Accepted
 number-0 Accepted e = refl

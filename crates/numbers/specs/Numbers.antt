@@ -1,8 +1,8 @@
--- Document 01, "Numbers a caller gets".
+-- Document 01, "Numbers a caller gets"; 40 to 43 are document 02's: "Numbers added here and in later requests join document 01's table."
 use Prim.Native.Nat.{ℕ}
 use mathlib.Core.Bool.{Bool, true, false}
 use Rattle.numbers.specs.declared.Refusal.{Refusal}
-use Rattle.numbers.specs.declared.Refusal.the-variants.{AreaLength, FileShort, UnknownVersion, ModeNotCarried, InterruptMode, CounterRange, Byte60, BlockCut, BlockNumber, BlockTwice, MalformedData, UnpackedLength, BlockMissing, EndMarker, InvalidMachine, MemoryLength, OutputShort, RomAddress, OutOn48k, PagingLocked, JournalFull, NothingToMove, StepDamaged, CountsDisagree, PageNotOwned, RomLength, PairNumber}
+use Rattle.numbers.specs.declared.Refusal.the-variants.{AreaLength, FileShort, UnknownVersion, ModeNotCarried, InterruptMode, CounterRange, Byte60, BlockCut, BlockNumber, BlockTwice, MalformedData, UnpackedLength, BlockMissing, EndMarker, InvalidMachine, MemoryLength, OutputShort, RomAddress, OutOn48k, PagingLocked, JournalFull, NothingToMove, StepDamaged, CountsDisagree, PageNotOwned, RomLength, PairNumber, ScsHeader, ScsBlockMissing, ScsBlockTwice, ScsMemoryNotFirst}
 use Rattle.numbers.specs.declared.Answer.{Answer}
 use Rattle.numbers.specs.declared.Answer.the-variants.{Accepted, Refused}
 
@@ -34,6 +34,10 @@ refusalNumber CountsDisagree = 29
 refusalNumber PageNotOwned = 30
 refusalNumber RomLength = 31
 refusalNumber PairNumber = 32
+refusalNumber ScsHeader = 40
+refusalNumber ScsBlockMissing = 41
+refusalNumber ScsBlockTwice = 42
+refusalNumber ScsMemoryNotFirst = 43
 
 -- 0 is accepted
 abbrev pub numberOf : Answer → ℕ

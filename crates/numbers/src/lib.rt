@@ -1,8 +1,8 @@
-// The numbers that calls answer: document 01's one table.
+// The numbers that calls answer: document 01's one table, and those that document 02 adds to it.
 ghost use mathlib.Core.Path.{_≡_};
 ghost use Rattle.numbers.specs.Numbers.{numberOf, refusalNumber};
 
-// Why a call is refused, in the order of document 01's table.
+// Why a call is refused, in the order of the table.
 pub enum Refusal {
     AreaLength,
     FileShort,
@@ -31,6 +31,10 @@ pub enum Refusal {
     PageNotOwned,
     RomLength,
     PairNumber,
+    ScsHeader,
+    ScsBlockMissing,
+    ScsBlockTwice,
+    ScsMemoryNotFirst,
 }
 
 pub enum Answer {
@@ -85,5 +89,9 @@ fn refusal_number(why: Refusal) -> u32
         Refusal::PageNotOwned => 30,
         Refusal::RomLength => 31,
         Refusal::PairNumber => 32,
+        Refusal::ScsHeader => 40,
+        Refusal::ScsBlockMissing => 41,
+        Refusal::ScsBlockTwice => 42,
+        Refusal::ScsMemoryNotFirst => 43,
     }
 }
