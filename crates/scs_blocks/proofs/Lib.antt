@@ -1,0 +1,4 @@
+mod ScsParts
+pub mod ScsSoFar
+pub mod ScsInside
+pub mod ScsFilled

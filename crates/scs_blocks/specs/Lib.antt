@@ -1,0 +1,2 @@
+pub mod ScsBlocks
+pub mod Inner

@@ -1,0 +1,3 @@
+pub mod ScsKept
+pub mod ScsRead
+pub mod Theorems

@@ -1,0 +1,4 @@
+pub mod ScsMachine
+pub mod ScsPieces
+pub mod ScsKeeps
+pub mod Theorems

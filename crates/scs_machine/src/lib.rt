@@ -1,0 +1,188 @@
+// A machine and the CPU and Ports blocks of an SCS file: 34 and 19 bytes.
+use pages::Model;
+use spectrum::Attachment;
+use spectrum::Machine;
+use spectrum::Switches;
+use spectrum::Video;
+ghost use mathlib.Core.Path.{_≡_};
+ghost use Rattle.slices.specs.Bytes.{bitOf};
+ghost use Rattle.header_read.specs.Reading.{carried, noSide};
+ghost use Rattle.scs_machine.specs.ScsMachine.{scsPairs, scsSwitches, scsSound, scsMachine};
+ghost use Rattle.scs_machine.specs.ScsPieces.{highFirstPairs, lowFirstPairs, cpuSettings, portsFront};
+
+// The machine that both blocks give.
+pub fn machine_from(model: Model, cpu: [u8; 34], ports: [u8; 19]) -> Machine
+    ensures { λ r. ⌜ r ≡ scsMachine model cpu ports ⌝ }
+{
+    let pairs = pairs_from(cpu);
+    let switches = switches_from(cpu, ports);
+    let out7ffd = carry_byte(model, ports[1]);
+    let outfffd = carry_byte(model, ports[2] % 16);
+    let sound = sound_from(model, ports);
+    let side = side_of_v1();
+    Machine {
+        pairs: pairs,
+        i: cpu[24],
+        r: cpu[25],
+        switches: switches,
+        model: model,
+        out7ffd: out7ffd,
+        outfffd: outfffd,
+        sound: sound,
+        attachment: Attachment::Nothing,
+        byte36: 0,
+        remulation: false,
+        ldiremulation: false,
+        position: 0,
+        side59: 0,
+        side: side,
+    }
+}
+
+fn pairs_from(cpu: [u8; 34]) -> [u16; 12]
+    ensures { λ r. ⌜ r ≡ scsPairs cpu ⌝ }
+{
+    [
+        slices::word_of(cpu[1], cpu[0]),
+        slices::word_of(cpu[3], cpu[2]),
+        slices::word_of(cpu[5], cpu[4]),
+        slices::word_of(cpu[7], cpu[6]),
+        slices::word_of(cpu[9], cpu[8]),
+        slices::word_of(cpu[11], cpu[10]),
+        slices::word_of(cpu[13], cpu[12]),
+        slices::word_of(cpu[15], cpu[14]),
+        slices::word_of(cpu[16], cpu[17]),
+        slices::word_of(cpu[18], cpu[19]),
+        slices::word_of(cpu[22], cpu[23]),
+        slices::word_of(cpu[20], cpu[21]),
+    ]
+}
+
+fn switches_from(cpu: [u8; 34], ports: [u8; 19]) -> Switches
+    ensures { λ r. ⌜ r ≡ scsSwitches cpu ports ⌝ }
+{
+    let iff = cpu[27];
+    Switches {
+        border: ports[0] % 8,
+        iff1: iff / 1 % 2 == 1,
+        iff2: iff / 2 % 2 == 1,
+        im: cpu[26] % 4,
+        issue2: false,
+        double: false,
+        video: Video::Normal,
+        joystick: 0,
+    }
+}
+
+// A byte that only a 128K machine carries.
+fn carry_byte(model: Model, b: u8) -> u8
+    ensures { λ r. ⌜ r ≡ carried model b ⌝ }
+{
+    match model {
+        Model::K48 => 0,
+        Model::K128 => b,
+    }
+}
+
+fn sound_from(model: Model, ports: [u8; 19]) -> [u8; 16]
+    ensures { λ r. ⌜ r ≡ scsSound model ports ⌝ }
+{
+    match model {
+        Model::K48 => [0u8; 16],
+        Model::K128 => slices::part16(&ports, 3),
+    }
+}
+
+// The side bytes from 61 on, as v1 gives them.
+fn side_of_v1() -> [u8; 25]
+    ensures { λ r. ⌜ r ≡ noSide ⌝ }
+{
+    let mut side = [0u8; 25];
+    side[0] = 255;
+    side[1] = 255;
+    side
+}
+
+// AF BC DE HL and the dashed ones.
+pub fn high_first_pairs(p: [u16; 12]) -> [u8; 16]
+    ensures { λ q. ⌜ q ≡ highFirstPairs p ⌝ }
+{
+    let af = p[0];
+    let bc = p[1];
+    let de = p[2];
+    let hl = p[3];
+    let af2 = p[4];
+    let bc2 = p[5];
+    let de2 = p[6];
+    let hl2 = p[7];
+    [
+        (af / 256 % 256) as u8,
+        (af % 256) as u8,
+        (bc / 256 % 256) as u8,
+        (bc % 256) as u8,
+        (de / 256 % 256) as u8,
+        (de % 256) as u8,
+        (hl / 256 % 256) as u8,
+        (hl % 256) as u8,
+        (af2 / 256 % 256) as u8,
+        (af2 % 256) as u8,
+        (bc2 / 256 % 256) as u8,
+        (bc2 % 256) as u8,
+        (de2 / 256 % 256) as u8,
+        (de2 % 256) as u8,
+        (hl2 / 256 % 256) as u8,
+        (hl2 % 256) as u8,
+    ]
+}
+
+// IX IY PC SP.
+pub fn low_first_pairs(p: [u16; 12]) -> [u8; 8]
+    ensures { λ q. ⌜ q ≡ lowFirstPairs p ⌝ }
+{
+    let ix = p[8];
+    let iy = p[9];
+    let sp = p[10];
+    let pc = p[11];
+    [
+        (ix % 256) as u8,
+        (ix / 256 % 256) as u8,
+        (iy % 256) as u8,
+        (iy / 256 % 256) as u8,
+        (pc % 256) as u8,
+        (pc / 256 % 256) as u8,
+        (sp % 256) as u8,
+        (sp / 256 % 256) as u8,
+    ]
+}
+
+fn bit_of(b: bool) -> u8
+    ensures { λ q. ⌜ q ≡ bitOf b ⌝ }
+{
+    if b { 1 } else { 0 }
+}
+
+// I R, interrupt mode, IFFs, and zeros for the clock numbers.
+pub fn cpu_settings(i: u8, r: u8, s: Switches) -> [u8; 10]
+    ensures { λ q. ⌜ q ≡ cpuSettings i r s ⌝ }
+{
+    [
+        i,
+        r,
+        s.im,
+        bit_of(s.iff1) % 2 + 2 * (bit_of(s.iff2) % 2),
+        0,
+        0,
+        0,
+        0,
+        0,
+        0,
+    ]
+}
+
+// Border and both last OUTs.
+pub fn ports_front(m: Machine) -> [u8; 3]
+    ensures { λ q. ⌜ q ≡ portsFront m ⌝ }
+{
+    let switches = m.switches;
+    [switches.border, m.out7ffd, m.outfffd % 16]
+}

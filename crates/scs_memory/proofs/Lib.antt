@@ -1,0 +1,3 @@
+mod ScsLoads
+mod ScsStores
+pub mod ScsLengths

@@ -1,0 +1,3 @@
+mod ScsHeadSteps
+mod ScsLoadSteps
+mod ScsReadSteps

@@ -1,0 +1,73 @@
+-- A file read, at each return of the code.
+use Prim.Native.Nat.{ℕ}
+use mathlib.Core.Path.{_≡_, refl, sym, ap, subst, _∙_}
+use mathlib.Core.Bool.{Bool, true, false}
+use mathlib.Core.List.{List}
+use lib.ListN.{length}
+use lib.Dec.{eqb}
+use borrow.Author.Tests.{eq-eqb, ne-eqb, eqb-false}
+use Rattle.slices.specs.Choose.{choose}
+use Rattle.slices.proofs.Chosen.{either}
+use Rattle.pages.specs.declared.Model.{Model}
+use Rattle.numbers.specs.declared.Refusal.{Refusal}
+use Rattle.numbers.specs.declared.Refusal.the-variants.{AreaLength}
+use Rattle.numbers.specs.declared.Answer.the-variants.{Accepted}
+use Rattle.numbers.proofs.Numbers.{refused-not}
+use Rattle.spectrum.specs.Valid.{validOf}
+use Rattle.z80read.specs.declared.Opened.{Opened}
+use Rattle.z80read.specs.Read.{ReadResult, refusedRead, ReadLeaves, Reads}
+use Rattle.scs_blocks.specs.declared.ScsSeen.{ScsSeen}
+use Rattle.scs_blocks.specs.declared.ScsFound.{ScsFound}
+use Rattle.scs_blocks.specs.declared.ScsFound.the-variants.{Bad, Blocks}
+use Rattle.scs_blocks.specs.ScsBlocks.{allSeen, scsBlocks, dataOf, filled}
+use Rattle.scs_blocks.proofs.ScsInside.{blocks-inside}
+use Rattle.scs_machine.specs.ScsMachine.{scsMode, scsMachine}
+use Rattle.scs_machine.proofs.ScsRead.{scs-valid}
+use Rattle.scs_read.specs.declared.ScsHead.{ScsHead}
+use Rattle.scs_read.specs.declared.ScsHead.the-variants.{Spectrum}
+use Rattle.scs_read.specs.ScsHeads.{scsHeadOf}
+use Rattle.scs_read.specs.ScsReads.{scsLoaded, afterSeen, afterFound, afterScsHead, scsReadOf}
+use Rattle.scs_read.specs.Inner.{Loadable}
+
+-- a refusal is not accepted, so nothing is said of its machine
+refused-reads : (o : ReadResult) (why : Refusal) (n : ℕ) (r : Opened) (area : List ℕ) → refusedRead why n ≡ o → ReadLeaves (refusedRead why n) r area → Reads o r area
+refused-reads o why n r area e l = subst (λ (x : ReadResult). Reads x r area) e (record { leaves = l; valid = λ a. absurd (refused-not why (sym (l .answer) ∙ a)) })
+
+-- what is loaded is valid where it is accepted
+loaded-valid : (seen : ScsSeen) (model : Model) (s : List ℕ) (n : ℕ) → afterSeen seen model s n .answer ≡ Accepted → validOf (afterSeen seen model s n .machine) ≡ true
+loaded-valid seen model s n =
+    let cpu = filled 34 (dataOf s (seen .cpu)) in
+    let P : ReadResult → Type 0 = λ o. o .answer ≡ Accepted → validOf (o .machine) ≡ true in
+    either P (allSeen seen) _ _
+    (λ t. either P (eqb (scsMode cpu) 3) _ _ (λ e a. absurd (refused-not _ a)) (λ e a. scs-valid model cpu (filled 19 (dataOf s (seen .ports))) (eqb-false _ _ e)))
+    (λ t a. absurd (refused-not _ a))
+
+pub scs-loadable : (s area : List ℕ) (found : ScsFound) (seen : ScsSeen) → found ≡ scsBlocks s 15 → found ≡ Blocks seen → length area ≡ 131072 → Loadable s seen area
+scs-loadable s area found seen ef e h = record { inside = blocks-inside s 15 found seen ef e; whole = h }
+
+module _ (s area : List ℕ) (r : Opened) (after : List ℕ) where
+  pub scs-length : (length area ≡ 131072 → ⊥) → ReadLeaves (refusedRead AreaLength (length area)) r after → Reads (scsReadOf s (length area)) r after
+  unfolding scsReadOf
+  scs-length h l = refused-reads _ AreaLength (length area) r after (rw (ne-eqb (length area) 131072 h)) l
+
+  module _ (h : length area ≡ 131072) (head : ScsHead) (eh : head ≡ scsHeadOf s) where
+    after-head : afterScsHead head s (length area) ≡ scsReadOf s (length area)
+    unfolding scsReadOf
+    after-head = rw (eq-eqb (length area) 131072 h, ← eh)
+
+    pub scs-head-refused : (why : Refusal) → head ≡ ScsHead.Bad why → ReadLeaves (refusedRead why (length area)) r after → Reads (scsReadOf s (length area)) r after
+    scs-head-refused why e l = refused-reads _ why (length area) r after (sym (ap (λ (x : ScsHead). afterScsHead x s (length area)) e) ∙ after-head) l
+
+    module _ (model : Model) (em : head ≡ Spectrum model) (found : ScsFound) (ef : found ≡ scsBlocks s 15) where
+      after-found : afterFound found model s (length area) ≡ scsReadOf s (length area)
+      after-found = ap (λ (x : ScsFound). afterFound x model s (length area)) ef ∙ sym (ap (λ (x : ScsHead). afterScsHead x s (length area)) em) ∙ after-head
+
+      pub scs-blocks-refused : (why : Refusal) → found ≡ Bad why → ReadLeaves (refusedRead why (length area)) r after → Reads (scsReadOf s (length area)) r after
+      scs-blocks-refused why e l = refused-reads _ why (length area) r after (sym (ap (λ (x : ScsFound). afterFound x model s (length area)) e) ∙ after-found) l
+
+      module _ (seen : ScsSeen) (e : found ≡ Blocks seen) where
+        pub scs-read : ReadLeaves (afterSeen seen model s (length area)) r after → Reads (scsReadOf s (length area)) r after
+        scs-read l =
+            let q : afterSeen seen model s (length area) ≡ scsReadOf s (length area) = sym (ap (λ (x : ScsFound). afterFound x model s (length area)) e) ∙ after-found in
+            subst (λ (x : ReadResult). Reads x r after) q
+            (record { leaves = l; valid = λ a. ap validOf (l .machine) ∙ loaded-valid seen model s (length area) (sym (l .answer) ∙ a) })

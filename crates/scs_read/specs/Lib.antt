@@ -1,0 +1,3 @@
+pub mod ScsHeads
+pub mod ScsReads
+pub mod Inner

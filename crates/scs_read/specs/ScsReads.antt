@@ -1,0 +1,43 @@
+-- Reading an SCS file: "1, 2 under 15 bytes; 40 wrong "SamSnap!" or hardware number; 43 if byte 15 is absent or not 3; block by block 8 if
+-- cut, 42 a second block 1, 2 or 3; 41 one of them missing; last 5."
+use Prim.Native.Nat.{ℕ}
+use mathlib.Core.List.{List}
+use lib.Dec.{eqb}
+use Rattle.slices.specs.Choose.{choose}
+use Rattle.pages.specs.declared.Model.{Model}
+use Rattle.numbers.specs.declared.Refusal.the-variants.{AreaLength, InterruptMode, ScsBlockMissing}
+use Rattle.numbers.specs.declared.Answer.the-variants.{Accepted}
+use Rattle.z80read.specs.Read.{ReadResult, refusedRead}
+use Rattle.scs_blocks.specs.declared.ScsSeen.{ScsSeen}
+use Rattle.scs_blocks.specs.declared.ScsFound.{ScsFound}
+use Rattle.scs_blocks.specs.declared.ScsFound.the-variants.{Bad, Blocks}
+use Rattle.scs_blocks.specs.ScsBlocks.{allSeen, scsBlocks, dataOf, filled}
+use Rattle.scs_machine.specs.ScsMachine.{scsMode, scsMachine}
+use Rattle.scs_memory.specs.ScsMemory.{scsMemory}
+use Rattle.scs_read.specs.declared.ScsHead.{ScsHead}
+use Rattle.scs_read.specs.declared.ScsHead.the-variants.{Spectrum}
+use Rattle.scs_read.specs.ScsHeads.{scsHeadOf}
+
+-- the machine and the memory of three blocks' data: 34 bytes are due of CPU, 19 of Ports; "last 5"
+abbrev pub scsLoaded : Model → List ℕ → List ℕ → List ℕ → ℕ → ReadResult
+scsLoaded model cpu ports memory n =
+    choose (eqb (scsMode (filled 34 cpu)) 3) (refusedRead InterruptMode n)
+    (record { answer = Accepted; machine = scsMachine model (filled 34 cpu) (filled 19 ports); memory = scsMemory model memory })
+
+-- "41 one of them missing"
+abbrev pub afterSeen : ScsSeen → Model → List ℕ → ℕ → ReadResult
+afterSeen seen model s n =
+    choose (allSeen seen) (scsLoaded model (dataOf s (seen .cpu)) (dataOf s (seen .ports)) (dataOf s (seen .memory)) n) (refusedRead ScsBlockMissing n)
+
+abbrev pub afterFound : ScsFound → Model → List ℕ → ℕ → ReadResult
+afterFound (Bad why) model s n = refusedRead why n
+afterFound (Blocks seen) model s n = afterSeen seen model s n
+
+-- the blocks begin at byte 15
+abbrev pub afterScsHead : ScsHead → List ℕ → ℕ → ReadResult
+afterScsHead (ScsHead.Bad why) s n = refusedRead why n
+afterScsHead (Spectrum model) s n = afterFound (scsBlocks s 15) model s n
+
+-- the file s read into an area of n bytes: nothing but its length is known of the area
+unfoldable pub scsReadOf : List ℕ → ℕ → ReadResult
+scsReadOf s n = choose (eqb n 131072) (afterScsHead (scsHeadOf s) s n) (refusedRead AreaLength n)

@@ -1,0 +1,178 @@
+// Reading an SCS file with a Spectrum inside, already unwrapped, into a machine and a lent area of 131,072 bytes. The blocks are looked
+// through before anything is copied.
+use numbers::Answer;
+use numbers::Refusal;
+use pages::Model;
+use scs_blocks::ScsFound;
+use scs_blocks::ScsPart;
+use scs_blocks::ScsSeen;
+use spectrum::Machine;
+use z80read::Opened;
+ghost use Prim.Native.Nat.{_≤_};
+ghost use mathlib.Core.Path.{_≡_};
+ghost use lib.ListN.{length, take};
+ghost use Rattle.slices.specs.Same.{same};
+ghost use Rattle.z80read.specs.Read.{refusedRead, ReadLeaves, Reads};
+ghost use Rattle.scs_blocks.specs.ScsBlocks.{allSeen, dataOf, filled};
+ghost use Rattle.scs_blocks.specs.Inner.{PartInside};
+ghost use Rattle.scs_memory.specs.ScsMemory.{scsMemory};
+ghost use Rattle.scs_read.specs.ScsHeads.{samSnap, memoryFirst, scsHeadOf};
+ghost use Rattle.scs_read.specs.ScsReads.{afterSeen, scsReadOf};
+ghost use Rattle.scs_read.specs.Inner.{Loadable};
+
+// What the first 15 bytes and the number of the first block say.
+pub enum ScsHead {
+    Bad(Refusal),
+    Spectrum(Model),
+}
+
+// The file read into the area. Refused, the machine is blank and the area all zero, whatever its length.
+pub fn read(file: &[u8], area: &mut [u8]) -> Opened
+    ensures { λ r. ⌜ Reads (scsReadOf (now (file .entry)) (length (now (area .entry)))) r (now (area .exit)) ⌝ }
+{
+    if area.len() != 131072 {
+        return refused_scs(area, Refusal::AreaLength);
+    }
+    let head = read_scs_head(file);
+    match head {
+        ScsHead::Bad(why) => return refused_scs(area, why),
+        ScsHead::Spectrum(model) => {
+            let found = scs_blocks::find_blocks(file, 15);
+            match found {
+                ScsFound::Bad(why) => return refused_scs(area, why),
+                ScsFound::Blocks(seen) => return load(file, model, seen, area),
+            }
+        }
+    }
+}
+
+fn refused_scs(area: &mut [u8], why: Refusal) -> Opened
+    ensures { λ r. ⌜ ReadLeaves (refusedRead why (length (now (area .entry)))) r (now (area .exit)) ⌝ }
+{
+    slices::fill(area, 0);
+    Opened {
+        answer: Answer::Refused(why),
+        machine: Machine::blank(),
+    }
+}
+
+fn read_scs_head(file: &[u8]) -> ScsHead
+    ensures { λ r. ⌜ r ≡ scsHeadOf (now (file .entry)) ⌝ }
+{
+    if file.len() < 15 {
+        return ScsHead::Bad(Refusal::FileShort);
+    }
+    if has_name(file) {
+        let hardware = file[14];
+        if hardware == 1 {
+            return memory_first(file, Model::K48);
+        }
+        if hardware == 2 {
+            return memory_first(file, Model::K128);
+        }
+        return ScsHead::Bad(Refusal::ScsHeader);
+    }
+    ScsHead::Bad(Refusal::ScsHeader)
+}
+
+// Whether the file begins with "SamSnap!".
+fn has_name(file: &[u8]) -> bool
+    requires { ⌜ 15 ≤ length (now file) ⌝ }
+    ensures { λ r. ⌜ r ≡ same (take 8 (now (file .entry))) samSnap ⌝ }
+{
+    let name = [83u8, 97, 109, 83, 110, 97, 112, 33];
+    check::same(&file[0..8], &name)
+}
+
+fn memory_first(file: &[u8], model: Model) -> ScsHead
+    ensures { λ r. ⌜ r ≡ memoryFirst (now (file .entry)) model ⌝ }
+{
+    if file.len() < 16 {
+        return ScsHead::Bad(Refusal::ScsMemoryNotFirst);
+    }
+    if file[15] == 3 {
+        return ScsHead::Spectrum(model);
+    }
+    ScsHead::Bad(Refusal::ScsMemoryNotFirst)
+}
+
+// The machine and the memory of the blocks that were seen.
+fn load(file: &[u8], model: Model, seen: ScsSeen, area: &mut [u8]) -> Opened
+    requires { ⌜ Loadable (now file) seen (now area) ⌝ }
+    ensures { λ r. ⌜ ReadLeaves (afterSeen seen model (now (file .entry)) (length (now (area .entry)))) r (now (area .exit)) ⌝ }
+{
+    let cpu_part = seen.cpu;
+    let ports_part = seen.ports;
+    let memory_part = seen.memory;
+    if all_seen(seen) {
+        let cpu = cpu_of(file, cpu_part);
+        if cpu[26] % 4 == 3 {
+            return refused_scs(area, Refusal::InterruptMode);
+        }
+        let ports = ports_of(file, ports_part);
+        load_part(file, memory_part, model, area);
+        let machine = scs_machine::machine_from(model, cpu, ports);
+        return Opened {
+            answer: Answer::Accepted,
+            machine: machine,
+        };
+    }
+    refused_scs(area, Refusal::ScsBlockMissing)
+}
+
+fn all_seen(seen: ScsSeen) -> bool
+    ensures { λ r. ⌜ r ≡ allSeen seen ⌝ }
+{
+    let cpu = seen.cpu;
+    let ports = seen.ports;
+    let memory = seen.memory;
+    slices::and(
+        scs_blocks::is_there(cpu),
+        slices::and(scs_blocks::is_there(ports), scs_blocks::is_there(memory)),
+    )
+}
+
+fn cpu_of(file: &[u8], part: ScsPart) -> [u8; 34]
+    requires { ⌜ PartInside (length (now file)) part ⌝ }
+    ensures { λ r. ⌜ r ≡ filled 34 (dataOf (now (file .entry)) part) ⌝ }
+{
+    let mut cpu = [0u8; 34];
+    fill_part(file, part, &mut cpu);
+    cpu
+}
+
+fn ports_of(file: &[u8], part: ScsPart) -> [u8; 19]
+    requires { ⌜ PartInside (length (now file)) part ⌝ }
+    ensures { λ r. ⌜ r ≡ filled 19 (dataOf (now (file .entry)) part) ⌝ }
+{
+    let mut ports = [0u8; 19];
+    fill_part(file, part, &mut ports);
+    ports
+}
+
+// What is due of a block's data.
+fn fill_part(file: &[u8], part: ScsPart, dst: &mut [u8])
+    requires { ⌜ PartInside (length (now file)) part ⌝ }
+    ensures { λ _. ⌜ now (dst .exit) ≡ filled (length (now (dst .entry))) (dataOf (now (file .entry)) part) ⌝ }
+{
+    match part {
+        ScsPart::Absent => slices::fill(dst, 0),
+        ScsPart::Stands { from, size } => {
+            let end = from + size;
+            scs_blocks::fill_from(&file[from..end], dst);
+        }
+    }
+}
+
+fn load_part(file: &[u8], part: ScsPart, model: Model, area: &mut [u8])
+    requires { ⌜ (PartInside (length (now file)) part) × (length (now area) ≡ 131072) ⌝ }
+    ensures { λ _. ⌜ now (area .exit) ≡ scsMemory model (dataOf (now (file .entry)) part) ⌝ }
+{
+    match part {
+        ScsPart::Absent => scs_memory::load_memory(&file[0..0], model, area),
+        ScsPart::Stands { from, size } => {
+            let end = from + size;
+            scs_memory::load_memory(&file[from..end], model, area);
+        }
+    }
+}
