@@ -1,2 +1,3 @@
+pub mod ScsIdentity
 pub mod ScsBlocks
 pub mod Inner

@@ -13,10 +13,11 @@ ghost use mathlib.Core.Path.{_≡_};
 ghost use lib.ListN.{length, take};
 ghost use Rattle.slices.specs.Same.{same};
 ghost use Rattle.z80read.specs.Read.{refusedRead, ReadLeaves, Reads};
+ghost use Rattle.scs_blocks.specs.ScsIdentity.{samSnap};
 ghost use Rattle.scs_blocks.specs.ScsBlocks.{allSeen, dataOf, filled};
 ghost use Rattle.scs_blocks.specs.Inner.{PartInside};
 ghost use Rattle.scs_memory.specs.ScsMemory.{scsMemory};
-ghost use Rattle.scs_read.specs.ScsHeads.{samSnap, memoryFirst, scsHeadOf};
+ghost use Rattle.scs_read.specs.ScsHeads.{memoryFirst, scsHeadOf};
 ghost use Rattle.scs_read.specs.ScsReads.{afterSeen, scsReadOf};
 ghost use Rattle.scs_read.specs.Inner.{Loadable};
 

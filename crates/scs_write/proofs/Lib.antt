@@ -1,0 +1,4 @@
+mod ScsLaid
+pub mod ScsFiles
+pub mod ScsFits
+pub mod Theorems

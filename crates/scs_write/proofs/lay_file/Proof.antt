@@ -1,0 +1,68 @@
+use Rattle.scs_write.proofs.ScsFiles.{file-laid}
+use borrow.Author.Needs.{needs}
+use Rattle.scs_write.proofs.lay_file.Statement.{statement}
+use Rattle.scs_write.proofs.lay_file.Tie as tie
+
+typed-requires : tie.Need-typed-requires
+typed-requires c κs = search needs
+
+memory-size-requires : tie.Need-memory-size-requires
+memory-size-requires c κs = search needs
+
+add-end : tie.Need-add-end
+add-end c = search needs
+
+front-requires : tie.Need-front-requires
+front-requires c κs = search needs
+
+slice-aggregate-put-at : tie.Need-slice-aggregate-put-at
+slice-aggregate-put-at c = search needs
+
+put-at-requires : tie.Need-put-at-requires
+put-at-requires c κs = search needs
+
+store-memory-requires : tie.Need-store-memory-requires
+store-memory-requires c κs = search needs
+
+put-cpu-requires : tie.Need-put-cpu-requires
+put-cpu-requires c κs = search needs
+
+add-put-ports : tie.Need-add-put-ports
+add-put-ports c = search needs
+
+put-ports-requires : tie.Need-put-ports-requires
+put-ports-requires c κs = search needs
+
+add-clear-from : tie.Need-add-clear-from
+add-clear-from c = search needs
+
+clear-from-requires : tie.Need-clear-from-requires
+clear-from-requires c κs = search needs
+
+same-length : tie.Need-same-length
+same-length c = search needs
+
+returns : tie.Need-returns
+returns c =
+    let start = c .before .before .before .before .before .before .before .before .before .before .before .before .before .before .before .before .before .before .before .before .before .before .before .before .before .before in
+    file-laid _ _ (c .before .before .before .before .before .before .before .before .before .before .before .before .before .before .before .before .before .before .before .before .before .before .before .typed .ensures) (start .pre .0) _ _ _ _ _ _ _ _ (start .pre .1) (c .before .before .before .before .before .before .before .before .before .before .before .before .before .before .before .before .before .before .before .before .before .before .memory-size .ensures) (c .before .before .before .before .before .before .before .before .before .before .before .before .before .before .before .before .before .before .before .before .front .ensures)
+    (c .before .before .before .before .before .before .before .before .before .before .before .before .before .before .before .before .before .before .put-at .ensures) (c .before .before .before .before .before .before .before .before .before .before .before .before .before .before .store-memory .ensures) (c .before .before .before .before .before .before .before .before .before .before .put-cpu .ensures) (c .before .before .before .before .before .before .put-ports .ensures) (c .before .before .clear-from .ensures)
+
+pub lay-file-spec : {M : Type 1} → statement M
+lay-file-spec =
+    tie.close
+    (tie.spec
+    typed-requires
+    memory-size-requires
+    add-end
+    front-requires
+    slice-aggregate-put-at
+    put-at-requires
+    store-memory-requires
+    put-cpu-requires
+    add-put-ports
+    put-ports-requires
+    add-clear-from
+    clear-from-requires
+    same-length
+    returns)

@@ -1,0 +1,2 @@
+pub mod ScsWritten
+pub mod Theorems
