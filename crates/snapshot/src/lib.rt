@@ -4,6 +4,7 @@ ghost use mathlib.Core.Path.{_≡_};
 ghost use lib.ListN.{length};
 ghost use Rattle.five_calls.specs.declared.Call.the-variants.{Byte, Pair, Out, Undo, Redo};
 ghost use Rattle.file_bytes.specs.Files.{readOfBytes, ReadsBytes, writeOfBytes, WritesBytes};
+ghost use Rattle.scs_bytes.specs.ScsBytes.{scsReadOfBytes, scsWriteOfBytes};
 ghost use Rattle.journal_bytes.specs.Calls.{buffersIn, buffersOut, snapCall, CallLeaves, LogStarts};
 ghost use Rattle.view_bytes.specs.Views.{Shows, showOf};
 ghost use Rattle.machine_bytes.specs.Looks.{modelOf, TellsModel, pairOf, TellsPair, addressOf, TellsPlace};
@@ -31,6 +32,22 @@ pub extern "C" fn snap_z80_write(head: &[u8], area: &[u8], out: &mut [u8], size:
     ensures { λ r. ⌜ WritesBytes (writeOfBytes (now (head .entry)) (now (area .entry)) (length (now (out .entry)))) r (now (size .exit)) (now (out .exit)) ⌝ }
 {
     file_bytes::write(head, area, out, size)
+}
+
+// An SCS file into an area of 131,072 bytes and a header of 86.
+#[no_mangle]
+pub extern "C" fn snap_scs_read(file: &[u8], area: &mut [u8], head: &mut [u8]) -> u32
+    ensures { λ r. ⌜ ReadsBytes (scsReadOfBytes (now (file .entry)) (length (now (area .entry))) (length (now (head .entry)))) r (now (area .exit)) (now (head .exit)) ⌝ }
+{
+    scs_bytes::read(file, area, head)
+}
+
+// A header and its area into the one SCS file.
+#[no_mangle]
+pub extern "C" fn snap_scs_write(head: &[u8], area: &[u8], out: &mut [u8], size: &mut u64) -> u32
+    ensures { λ r. ⌜ WritesBytes (scsWriteOfBytes (now (head .entry)) (now (area .entry)) (length (now (out .entry)))) r (now (size .exit)) (now (out .exit)) ⌝ }
+{
+    scs_bytes::write(head, area, out, size)
 }
 
 // Where a page lies: in the ROM or in the area, from which byte on, and how long.

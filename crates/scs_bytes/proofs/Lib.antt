@@ -1,0 +1,2 @@
+mod ScsByteSteps
+pub mod ScsAccepted
