@@ -2,10 +2,12 @@
 //! library under test, and the data they are compared and timed on.
 #![forbid(unsafe_code)]
 
+mod buffers;
 pub mod journal;
 pub mod machine;
 pub mod memory;
 pub mod packing;
 pub mod refusal;
 pub mod samples;
+pub mod scs;
 pub mod z80;

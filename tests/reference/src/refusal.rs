@@ -29,6 +29,10 @@ pub enum Refusal {
     Page = 30,
     Rom = 31,
     Pair = 32,
+    ScsHeader = 40,
+    ScsBlockMissing = 41,
+    ScsBlockTwice = 42,
+    ScsMemoryNotFirst = 43,
 }
 
 /// The answer of an accepted call.

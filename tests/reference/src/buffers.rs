@@ -1,13 +1,16 @@
-//! Reading and writing over byte buffers, as the library exports them. The machine crosses as its v3 header.
+//! Reading and writing over byte buffers, as the library exports them for each format. The machine crosses as its v3
+//! header.
 
-use super::{read, write};
 use crate::machine::{header, own_header, Machine, HEADER};
 use crate::memory::MEMORY;
 use crate::refusal::{number, Refusal, ACCEPTED};
 
+/// Gives the machine and the memory of a file, or the first number that refuses it.
+type FileReader = fn(&[u8]) -> Result<(Machine, Vec<u8>), Refusal>;
+
 /// Reads a file into the area and the header. Refused: a zero area, the blank machine's header, and zeros
 /// where the header is not 86 bytes long.
-pub fn read_bytes(file: &[u8], area: &mut [u8], header_bytes: &mut [u8]) -> u32 {
+pub fn read_bytes(read: FileReader, file: &[u8], area: &mut [u8], header_bytes: &mut [u8]) -> u32 {
     area.fill(0);
     header_bytes.fill(0);
     if header_bytes.len() != HEADER {
@@ -26,7 +29,13 @@ pub fn read_bytes(file: &[u8], area: &mut [u8], header_bytes: &mut [u8]) -> u32 
 }
 
 /// Writes the file of a header and an area, zeros after it. Refused: length 0 and a zero output.
-pub fn write_bytes(header: &[u8], area: &[u8], out: &mut [u8], length: &mut u64) -> u32 {
+pub fn write_bytes(
+    write: fn(&Machine, &[u8]) -> Vec<u8>,
+    header: &[u8],
+    area: &[u8],
+    out: &mut [u8],
+    length: &mut u64,
+) -> u32 {
     *length = 0;
     out.fill(0);
     let Some(machine) = own_header(header) else {
