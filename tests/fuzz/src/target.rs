@@ -4,6 +4,7 @@ use super::input::{Input, InputMode, Picked};
 use super::log;
 use super::memory::described;
 use super::reached::{mark, READ_ROW, WRITE_ROW};
+use compare::calls::formats::Z80_FORMAT;
 use compare::calls::{files, journal};
 use compare::lent::LentPart;
 use compare::report::{Group, Outcome};
@@ -26,7 +27,7 @@ pub struct Target {
 impl Default for Target {
     fn default() -> Target {
         Target {
-            files: files::FileChecker::new(0),
+            files: files::FileChecker::new(Z80_FORMAT, 0),
             journal: journal::JournalChecker::new(0),
             roms: ROMS.map(|length| LentPart::new(length, 3)),
             calls: Group::default(),

@@ -5,6 +5,7 @@
 mod z80;
 
 use compare::calls::files::FileChecker;
+use compare::calls::formats::Z80_FORMAT;
 use compare::report::{Group, Outcome, Report};
 use std::process::ExitCode;
 use z80::maker::Maker;
@@ -47,7 +48,7 @@ const GROUPS: [(&str, Run); 23] = [
 
 fn main() -> ExitCode {
     let mut report = Report::new(LEAST_FILES);
-    let check = &mut FileChecker::new(1);
+    let check = &mut FileChecker::new(Z80_FORMAT, 1);
     let maker = &mut Maker::new(2);
     for (name, run) in GROUPS {
         report.group(name, |group| run(group, check, maker));

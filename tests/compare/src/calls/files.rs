@@ -1,19 +1,19 @@
-//! Reading and writing of files.
+//! Reading and writing of files of any format.
 
+use super::formats::FileFormat;
 use super::{answer, note, outcome};
-use crate::ffi_snapshot;
 use crate::lent::LentPart;
 use crate::report::{hex, Group, Outcome};
 use reference::machine::HEADER;
 use reference::memory::{Rng, MEMORY};
-use reference::z80::{read_bytes, write_bytes, LONGEST_FILE};
 use std::hint::black_box;
 
 /// One more than the highest number of the two calls.
-const FILE_NUMBERS: usize = 23;
+const FILE_NUMBERS: usize = 44;
 
 /// Makes every lent part dirty before a call and counts the answers given.
 pub struct FileChecker {
+    format: FileFormat,
     pub fills: Rng,
     area: LentPart,
     header: LentPart,
@@ -28,14 +28,16 @@ pub struct FileChecker {
 }
 
 impl FileChecker {
-    pub fn new(seed: u64) -> FileChecker {
+    pub fn new(format: FileFormat, seed: u64) -> FileChecker {
+        let longest = format.longest;
         FileChecker {
+            format,
             fills: Rng::new(seed),
             area: LentPart::new(MEMORY, 0),
             header: LentPart::new(HEADER, 0),
-            out: LentPart::new(LONGEST_FILE, 0),
+            out: LentPart::new(longest, 0),
             memory: vec![0; MEMORY],
-            file: vec![0; LONGEST_FILE],
+            file: vec![0; longest],
             reads: [0; FILE_NUMBERS],
             writes: [0; FILE_NUMBERS],
             longest: 0,
@@ -48,8 +50,30 @@ impl FileChecker {
         self.read_into(group, file, MEMORY, HEADER)
     }
 
-    /// Reads a file into an area and a header of these lengths, and answers the number.
+    /// The same without writing what was read.
+    pub fn read_alone(&mut self, group: &mut Group, file: &[u8]) -> Result<u32, String> {
+        self.read_once(group, file, MEMORY, HEADER)
+    }
+
+    /// Reads a file into an area and a header of these lengths, and answers the number. An accepted one is written and
+    /// read again.
     pub fn read_into(
+        &mut self,
+        group: &mut Group,
+        file: &[u8],
+        area: usize,
+        header: usize,
+    ) -> Result<u32, String> {
+        let number = self.read_once(group, file, area, header)?;
+        if number == 0 {
+            let (machine, memory) = self.last_read();
+            let trip = self.round_trip(&machine, &memory);
+            trip.map_err(|what| format!("read {}: {what}", hex(file)))?;
+        }
+        Ok(number)
+    }
+
+    fn read_once(
         &mut self,
         group: &mut Group,
         file: &[u8],
@@ -60,12 +84,9 @@ impl FileChecker {
         let mut memory = std::mem::take(&mut self.memory);
         memory.resize(area, 0);
         let mut machine = vec![0xA5; header];
-        let number = read_bytes(file, &mut memory, &mut machine);
+        let number = (self.format.reference.0)(file, &mut memory, &mut machine);
         self.reads[number as usize] += 1;
-        let mut outcome = self.read_call(file, number, &memory, &machine);
-        if number == 0 {
-            outcome = outcome.and_then(|()| self.round_trip(&machine, &memory));
-        }
+        let outcome = self.read_call(file, number, &memory, &machine);
         self.memory = memory;
         let tell = |what| format!("read {} into {area} and {header} bytes: {what}", hex(file));
         outcome.map(|()| number).map_err(tell)
@@ -76,7 +97,8 @@ impl FileChecker {
         self.area.renew(memory.len(), self.fills.word());
         self.header.renew(machine.len(), self.fills.word());
         let (area, header) = (&mut self.area, &mut self.header);
-        let given = ffi_snapshot::read(source.part(), area.part_mut(), header.part_mut());
+        let read = self.format.library.0;
+        let given = read(source.part(), area.part_mut(), header.part_mut());
         let mut wrong = Vec::new();
         answer(&mut wrong, given, number);
         note(&mut wrong, "area", self.area.difference(memory));
@@ -87,7 +109,7 @@ impl FileChecker {
 
     /// What was read is written, and read again: the same header and memory.
     fn round_trip(&mut self, machine: &[u8], memory: &[u8]) -> Outcome {
-        let mut file = self.write_call(machine, memory, LONGEST_FILE)?.1;
+        let mut file = self.write_call(machine, memory, self.format.longest)?.1;
         let outcome = self.read_call(&file, 0, memory, machine);
         self.last_length = file.len();
         self.longest = self.longest.max(self.last_length);
@@ -125,7 +147,7 @@ impl FileChecker {
         let mut file = std::mem::take(&mut self.file);
         file.resize(room, 0);
         let mut length = 0;
-        let number = write_bytes(machine, memory, &mut file, &mut length);
+        let number = (self.format.reference.1)(machine, memory, &mut file, &mut length);
         self.writes[number as usize] += 1;
         let source = LentPart::holding(machine, self.fills.word());
         self.area.renew(memory.len(), self.fills.word());
@@ -134,7 +156,7 @@ impl FileChecker {
         let dirty = self.fills.word();
         let mut cells = [dirty; 3];
         let (area, out) = (self.area.part(), self.out.part_mut());
-        let given = ffi_snapshot::write(source.part(), area, out, &mut cells[1]);
+        let given = (self.format.library.1)(source.part(), area, out, &mut cells[1]);
         let mut wrong = Vec::new();
         answer(&mut wrong, given, number);
         if black_box(cells) != [dirty, length, dirty] {
@@ -151,7 +173,8 @@ impl FileChecker {
 
     /// Every number of both calls was among the ones compared, and enough files were read.
     pub fn numbers_seen(&self, least_files: u64) -> Outcome {
-        let reads = (0..=14).chain([20]).map(|n| ("read", n, self.reads[n]));
+        let numbers = self.format.numbers.iter();
+        let reads = numbers.map(|n| ("read", *n, self.reads[*n]));
         let writes = [0, 20, 21, 22].map(|n| ("write", n, self.writes[n]));
         let all: Vec<_> = reads.chain(writes).collect();
         for call in ["read", "write"] {
@@ -162,6 +185,7 @@ impl FileChecker {
             println!("    {call}  {}", list.join(", "));
         }
         let files: u64 = self.reads.iter().sum();
+        println!("    {files} files read");
         if files < least_files {
             return Err(format!("only {files} files were read"));
         }

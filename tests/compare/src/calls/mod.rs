@@ -1,6 +1,7 @@
 //! Calls of the library, each compared with the reference: the answer and every byte lent.
 
 pub mod files;
+pub mod formats;
 pub mod journal;
 pub mod library;
 pub mod seen;
@@ -24,4 +25,12 @@ pub fn outcome(wrong: Vec<String>) -> Outcome {
         true => Ok(()),
         false => Err(wrong.join("; ")),
     }
+}
+
+/// What a group knows of a file before it is compared.
+pub fn expect(answer: u32, number: u32) -> Outcome {
+    if answer == number {
+        return Ok(());
+    }
+    Err(format!("the reference answers {answer}, not {number}"))
 }

@@ -1,5 +1,6 @@
 //! Stored files: the library reads what went in, or gives the expected number.
 
+use compare::calls::formats::ReadCall;
 use compare::ffi_snapshot;
 use compare::lent::LentPart;
 use compare::report::{Group, Outcome};
@@ -31,8 +32,6 @@ pub fn table(dir: &Path, samples: &[Sample]) -> Outcome {
     }
     Ok(())
 }
-
-type ReadCall = fn(&[u8], &mut [u8], &mut [u8]) -> u32;
 
 /// Both readers, each with how its buffers are dirty before.
 const COMPARED_READERS: [(&str, ReadCall, u64); 2] = [

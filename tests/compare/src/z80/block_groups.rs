@@ -1,9 +1,9 @@
 //! Groups that read good files of many kinds, lists of blocks, and files changed at random.
 
 use super::coding::Coding;
-use super::header_groups::expect;
 use super::maker::{Maker, VERSIONS};
 use super::sample::CodedBlock;
+use compare::calls::expect;
 use compare::calls::files::FileChecker;
 use compare::report::{Group, Outcome};
 use reference::machine::{Model, Version};

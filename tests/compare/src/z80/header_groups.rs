@@ -2,6 +2,7 @@
 
 use super::faults::other_blocks;
 use super::maker::{Maker, VERSIONS};
+use compare::calls::expect;
 use compare::calls::files::FileChecker;
 use compare::report::{Group, Outcome};
 use reference::machine::{header, Machine, Version, HEADER};
@@ -28,14 +29,6 @@ pub fn examples(group: &mut Group, check: &mut FileChecker) -> Outcome {
         return Err("the reference's blank machine".into());
     }
     Ok(())
-}
-
-/// What a group knows of a file before it is compared.
-pub fn expect(answer: u32, number: u32) -> Outcome {
-    if answer == number {
-        return Ok(());
-    }
-    Err(format!("the reference answers {answer}, not {number}"))
 }
 
 /// Every value of byte 34, with the blocks of 48K and of 128K.

@@ -2,9 +2,9 @@
 
 use super::coding::{constant, Coding};
 use super::faults::{applies, damage};
-use super::header_groups::expect;
 use super::maker::Maker;
 use super::sample::CodedBlock;
+use compare::calls::expect;
 use compare::calls::files::FileChecker;
 use compare::choice::Choice;
 use compare::report::{Group, Outcome};

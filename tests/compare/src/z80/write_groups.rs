@@ -1,7 +1,7 @@
 //! Groups that write.
 
-use super::header_groups::expect;
 use super::maker::Maker;
+use compare::calls::expect;
 use compare::calls::files::FileChecker;
 use compare::report::{Group, Outcome};
 use reference::machine::{header, own_header, Machine, Model, Version, HEADER};

@@ -1,0 +1,68 @@
+//! Groups that cut files: what is left is known from where its blocks end.
+
+use super::maker::{ScsMaker, MODELS};
+use super::sample::{ScsFileParts, SizedBlock};
+use compare::calls::expect;
+use compare::calls::files::FileChecker;
+use compare::report::{Group, Outcome};
+use reference::machine::Model;
+use reference::memory::PAGE;
+use reference::scs::{CPU_BLOCK, MEMORY_BLOCK, PORTS_BLOCK, SCS_START};
+
+/// The number of a good file without what stands from this place on.
+fn cut_number(sample: &ScsFileParts, end: usize) -> u32 {
+    let borders = sample.borders();
+    let last = borders[borders.len() - 1];
+    match end {
+        _ if end < SCS_START => 2,
+        SCS_START => 43,
+        _ if end > last => 0,
+        _ => match borders.iter().position(|border| *border == end) {
+            None => 8,
+            Some(count) => {
+                let has = |number| sample.blocks[..count].iter().any(|b| b.number == number);
+                match has(CPU_BLOCK) && has(PORTS_BLOCK) {
+                    true => 0,
+                    false => 41,
+                }
+            }
+        },
+    }
+}
+
+/// Short files of every kind, cut at every byte.
+pub fn short_files(group: &mut Group, check: &mut FileChecker, maker: &mut ScsMaker) -> Outcome {
+    for case in 0..100 {
+        let mut sample = maker.sample(MODELS[case % 2]);
+        sample.data(MEMORY_BLOCK).truncate(60);
+        let sample = sample.sized();
+        let file = sample.bytes();
+        for end in 0..=file.len() {
+            let answer = check.read_alone(group, &file[..end])?;
+            expect(answer, cut_number(&sample, end))?;
+        }
+    }
+    Ok(())
+}
+
+/// Files with all the memory, cut at every byte of a 48K file; of a 128K file at every byte near its ends and near each
+/// block's head, and in many other places.
+pub fn whole_files(group: &mut Group, check: &mut FileChecker, maker: &mut ScsMaker) -> Outcome {
+    for (model, pages, step) in [(Model::K48, 3, 1), (Model::K128, 8, 64)] {
+        let mut sample = maker.short(model);
+        *sample.data(MEMORY_BLOCK) = maker.rng.bytes(pages * PAGE);
+        sample.tail = vec![0; 5];
+        sample.blocks.push(SizedBlock::new(9, vec![1]));
+        let sample = sample.sized();
+        let file = sample.bytes();
+        let borders = sample.borders();
+        for end in 0..=file.len() {
+            let is_near = borders.iter().any(|border| border.abs_diff(end) <= 16);
+            if is_near || end < 64 || file.len() - end <= 128 || end % step == 0 {
+                let answer = check.read_alone(group, &file[..end])?;
+                expect(answer, cut_number(&sample, end))?;
+            }
+        }
+    }
+    Ok(())
+}
