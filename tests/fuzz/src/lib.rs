@@ -1,6 +1,7 @@
 //! The fuzz target: an input describes calls of the library, each compared with the reference.
 #![deny(unsafe_code)]
 
+pub mod files;
 pub mod input;
 mod log;
 mod memory;

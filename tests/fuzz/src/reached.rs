@@ -3,10 +3,15 @@
 use compare::calls::seen::{CountedFunction, NUMBERS};
 use std::sync::atomic::{AtomicU8, Ordering};
 
-/// The rows of cells: reading, writing, and the functions of the log.
-pub const READ_ROW: usize = 0;
-pub const WRITE_ROW: usize = 1;
-const ROWS: usize = 9;
+/// The rows of cells: reading and writing of each format, and the functions of the log.
+pub const Z80_ROWS: FormatRows = FormatRows { read: 0, write: 1 };
+pub const SCS_ROWS: FormatRows = FormatRows { read: 9, write: 10 };
+const ROWS: usize = 11;
+
+pub struct FormatRows {
+    pub read: usize,
+    pub write: usize,
+}
 
 pub fn row(function: CountedFunction) -> usize {
     2 + function as usize

@@ -1,15 +1,13 @@
 //! Reading and writing of files of any format.
 
 use super::formats::FileFormat;
+use super::seen::NUMBERS;
 use super::{answer, note, outcome};
 use crate::lent::LentPart;
 use crate::report::{hex, Group, Outcome};
 use reference::machine::HEADER;
 use reference::memory::{Rng, MEMORY};
 use std::hint::black_box;
-
-/// One more than the highest number of the two calls.
-const FILE_NUMBERS: usize = 44;
 
 /// Makes every lent part dirty before a call and counts the answers given.
 pub struct FileChecker {
@@ -20,8 +18,8 @@ pub struct FileChecker {
     out: LentPart,
     memory: Vec<u8>,
     file: Vec<u8>,
-    pub reads: [u64; FILE_NUMBERS],
-    pub writes: [u64; FILE_NUMBERS],
+    pub reads: [u64; NUMBERS],
+    pub writes: [u64; NUMBERS],
     pub longest: usize,
     /// The length of the file that the last accepted read was written to.
     pub last_length: usize,
@@ -38,8 +36,8 @@ impl FileChecker {
             out: LentPart::new(longest, 0),
             memory: vec![0; MEMORY],
             file: vec![0; longest],
-            reads: [0; FILE_NUMBERS],
-            writes: [0; FILE_NUMBERS],
+            reads: [0; NUMBERS],
+            writes: [0; NUMBERS],
             longest: 0,
             last_length: 0,
         }

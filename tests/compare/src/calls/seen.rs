@@ -3,8 +3,8 @@
 use crate::report::Outcome;
 use reference::journal::{Call, Correction};
 
-/// One more than the highest number.
-pub const NUMBERS: usize = 33;
+/// One more than the highest number of any call.
+pub const NUMBERS: usize = 44;
 
 #[derive(Clone, Copy, PartialEq, Eq)]
 pub enum CountedFunction {

@@ -54,7 +54,10 @@ fn main() -> Result<ExitCode> {
         let name = format!("{mode:?}").to_lowercase();
         report.group(&name, |group| run(group, target, mode, &all));
     }
-    report.fact("every number of files", target.files.numbers_seen(1));
+    for (name, format) in [".z80", "SCS"].into_iter().zip(&target.formats) {
+        let name = format!("every number of {name} files");
+        report.fact(&name, format.checker.numbers_seen(1));
+    }
     report.fact("every number of the log", target.journal.seen.all(1));
     let modelled = match target.modelled {
         LEAST_MODELLED.. => Ok(()),
