@@ -16,9 +16,24 @@ static void expect(const char *what, uint32_t got, uint32_t due)
     }
 }
 
+static uint8_t area[SNAP_AREA_SIZE], header[SNAP_HEADER_SIZE], file[SNAP_FILE_MOST];
+
+static void expect_scs(void)
+{
+    uint64_t length = 7;
+    expect("SCS, no file", snap_scs_read(NULL, 0, area, sizeof area, header, sizeof header), 2);
+    expect("SCS, no area", snap_scs_read(file, sizeof file, NULL, 0, header, sizeof header), 1);
+    expect("SCS, no header", snap_scs_read(file, sizeof file, area, sizeof area, NULL, 0), 20);
+    expect("SCS, no buffer", snap_scs_read(NULL, 0, NULL, 0, NULL, 0), 20);
+    expect("SCS, a blank header", snap_scs_read(NULL, 0, NULL, 0, header, sizeof header), 1);
+    expect("write SCS, no header", snap_scs_write(NULL, 0, area, sizeof area, file, sizeof file, &length), 20);
+    expect("write SCS, no area", snap_scs_write(header, sizeof header, NULL, 0, file, sizeof file, &length), 21);
+    expect("write SCS, no output", snap_scs_write(header, sizeof header, area, sizeof area, NULL, 0, &length), 22);
+    expect("the length of no SCS file", (uint32_t)length, 0);
+}
+
 int main(void)
 {
-    static uint8_t area[SNAP_AREA_SIZE], header[SNAP_HEADER_SIZE], file[SNAP_FILE_MOST];
     uint64_t length = 7, start = 7, standing = 7, total = 7;
     uint8_t in_rom = 7, model = 7, attachment = 7, page = 7;
     uint16_t value = 7, offset = 7;
@@ -29,6 +44,7 @@ int main(void)
     expect("write, no header", snap_z80_write(NULL, 0, area, sizeof area, file, sizeof file, &length), 20);
     expect("write, no area", snap_z80_write(header, sizeof header, NULL, 0, file, sizeof file, &length), 21);
     expect("write, no output", snap_z80_write(header, sizeof header, area, sizeof area, NULL, 0, &length), 22);
+    expect_scs();
     expect("view, no ROM", snap_view(header, sizeof header, NULL, 0, area, sizeof area, 5, &in_rom, &start, &length), 31);
     expect("view, no area", snap_view(header, sizeof header, NULL, 0, NULL, 0, 5, &in_rom, &start, &length), 21);
     expect("model, no header", snap_model(NULL, 0, &model, &attachment), 20);

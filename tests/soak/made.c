@@ -63,6 +63,13 @@ void make_file(struct made *made)
     expect("writing the request's file", number, 0);
 }
 
+void make_scs_file(struct made *made)
+{
+    uint32_t number = snap_scs_write(made->header, sizeof made->header, made->area, sizeof made->area, made->file,
+                                     sizeof made->file, &made->length);
+    expect("writing the request's SCS file", number, 0);
+}
+
 void make(struct made *made, uint64_t *seed)
 {
     make_header(made->header, seed);

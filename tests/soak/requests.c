@@ -164,4 +164,7 @@ const struct request_kind kinds[REQUEST_KINDS] = {
     {"absent page", absent_view_request},
     {"edit", edit_request},
     {"stored file", stored_request},
+    {"SCS read", scs_read_request},
+    {"SCS damaged", scs_damaged_request},
+    {"SCS write", scs_write_request},
 };

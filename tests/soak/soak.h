@@ -26,6 +26,7 @@ uint64_t next(uint64_t *seed);
 int is_128(const uint8_t *header);
 void make(struct made *made, uint64_t *seed);
 void make_file(struct made *made);
+void make_scs_file(struct made *made);
 
 /* corrections.c */
 enum correction_kind { BYTE = 1, PAIR, OUT };
@@ -58,8 +59,13 @@ void expect_refused(const struct server_slot *slot);
 void store(const char *name);
 void stored_request(struct server_slot *slot, uint64_t *seed);
 
+/* scs.c */
+void scs_read_request(struct server_slot *slot, uint64_t *seed);
+void scs_damaged_request(struct server_slot *slot, uint64_t *seed);
+void scs_write_request(struct server_slot *slot, uint64_t *seed);
+
 /* requests.c */
-#define REQUEST_KINDS 8
+#define REQUEST_KINDS 11
 struct request_kind {
     const char *name;
     void (*run)(struct server_slot *slot, uint64_t *seed);

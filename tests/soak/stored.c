@@ -23,10 +23,12 @@ static void fail(const char *what, const char *name)
 
 static uint32_t read_into(const struct stored_file *stored, uint8_t *area, uint8_t *header)
 {
+    if (stored->length >= 8 && memcmp(stored->file, "SamSnap!", 8) == 0)
+        return snap_scs_read(stored->file, stored->length, area, SNAP_AREA_SIZE, header, SNAP_HEADER_SIZE);
     return snap_z80_read(stored->file, stored->length, area, SNAP_AREA_SIZE, header, SNAP_HEADER_SIZE);
 }
 
-/* A .z80 file, or an input of the fuzz target: a file after its first two bytes. */
+/* A .z80 file, or an input of the fuzz target: a file, SCS files among them, after its first two bytes. */
 void store(const char *name)
 {
     static uint8_t bytes[1 << 20];
