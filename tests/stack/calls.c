@@ -2,9 +2,9 @@
 #include "stack.h"
 
 const char *const function_names[FUNCTIONS] = {
-    "snap_z80_read",     "snap_z80_write",   "snap_view", "snap_log_start", "snap_correct_byte",
-    "snap_correct_pair", "snap_correct_out", "snap_undo", "snap_redo",      "snap_version",
-    "snap_model",        "snap_pair",        "snap_place",
+    "snap_z80_read",     "snap_z80_write",    "snap_scs_read",    "snap_scs_write", "snap_view", "snap_log_start",
+    "snap_correct_byte", "snap_correct_pair", "snap_correct_out", "snap_undo",      "snap_redo", "snap_version",
+    "snap_model",        "snap_pair",         "snap_place",
 };
 
 int is_128(const uint8_t *header)
@@ -35,6 +35,11 @@ uint32_t make_call(struct lent_buffers *lent, const struct tried_call *call)
         return snap_z80_read(call->file, call->file_len, lent->area, call->area_len, lent->header, call->header_len);
     case WRITE:
         return snap_z80_write(lent->header, call->header_len, lent->area, call->area_len, lent->out, call->out_len,
+                              &lent->length);
+    case SCS_READ:
+        return snap_scs_read(call->file, call->file_len, lent->area, call->area_len, lent->header, call->header_len);
+    case SCS_WRITE:
+        return snap_scs_write(lent->header, call->header_len, lent->area, call->area_len, lent->out, call->out_len,
                               &lent->length);
     case VIEW:
         return snap_view(lent->header, call->header_len, rom, call->rom_len, lent->area, call->area_len,

@@ -15,7 +15,7 @@ static void stop(const char *what, const char *name)
     exit(1);
 }
 
-static const struct file *keep(const char *name, const uint8_t *bytes, size_t length)
+const struct file *keep(enum function reader, const char *name, const uint8_t *bytes, size_t length)
 {
     if (file_count == FILES_MOST)
         stop("too many files", name);
@@ -25,22 +25,23 @@ static const struct file *keep(const char *name, const uint8_t *bytes, size_t le
     if (file->bytes == NULL || kept_name == NULL)
         stop("no memory", name);
     file->name = strcpy(kept_name, name);
+    file->reader = reader;
     file->length = length;
     if (length > 0)
         memcpy(file->bytes, bytes, length);
     return file;
 }
 
-static struct tried_call read_call(const struct file *file)
+struct tried_call read_call(const struct file *file)
 {
-    struct tried_call call = usual(READ, &ordinary);
+    struct tried_call call = usual(file->reader, &ordinary);
     call.file = file->bytes;
     call.file_len = file->length;
     return call;
 }
 
 /* Areas and header buffers of other lengths, and both. */
-static void try_read_lengths(const struct file *file)
+void try_read_lengths(const struct file *file)
 {
     static const size_t areas[4] = {0, 1, SNAP_AREA_SIZE - 1, SNAP_AREA_SIZE + 1};
     static const size_t headers[4] = {0, 30, SNAP_HEADER_SIZE - 1, SNAP_HEADER_SIZE + 1};
@@ -72,7 +73,7 @@ static void try_cuts(const struct file *file)
 void try_file(const char *name, const uint8_t *bytes, size_t length, uint32_t due, const uint8_t *area)
 {
     static const uint8_t zeros[SNAP_AREA_SIZE];
-    const struct file *file = keep(name, bytes, length);
+    const struct file *file = keep(READ, name, bytes, length);
     struct tried_call call = read_call(file);
     try_read_lengths(file);
     if (due == 0)

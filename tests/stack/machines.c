@@ -87,6 +87,7 @@ void use_machine(const char *name)
 {
     static const size_t logs[5] = {0, SNAP_LOG_STEP - 1, SNAP_LOG_STEP, 100, 1000};
     try_writes(name);
+    try_scs_writes(name);
     try_views(name);
     try_looks(name);
     for (unsigned at = 0; at < 5; at++)

@@ -16,6 +16,7 @@ int main(int count, char **words)
     for (int at = 1; at < count; at++)
         try_stored(words[at]);
     try_made();
+    try_scs();
     try_log("the longest log", SNAP_LOG_MOST);
     try_log("a log that is longer than any", SNAP_LOG_MOST + SNAP_LOG_STEP);
     report_calls();

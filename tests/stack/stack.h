@@ -12,7 +12,9 @@
 #define GUARD_SIZE 1048576u
 
 /* The exported functions; the last four look at a machine or at the library. */
-enum function { READ, WRITE, VIEW, START, BYTE, PAIR, OUT, UNDO, REDO, VERSION, MODEL, PAIR_VALUE, PLACE, FUNCTIONS };
+enum function {
+    READ, WRITE, SCS_READ, SCS_WRITE, VIEW, START, BYTE, PAIR, OUT, UNDO, REDO, VERSION, MODEL, PAIR_VALUE, PLACE, FUNCTIONS
+};
 extern const char *const function_names[FUNCTIONS];
 
 /* The buffers lent to calls. Each has room for a length that is one too long. */
@@ -65,17 +67,25 @@ void report_calls(void);
 #define FILES_MOST 400u
 struct file {
     const char *name;
+    enum function reader; /* READ or SCS_READ */
     uint8_t *bytes;
     size_t length;
 };
 extern struct file files[FILES_MOST];
 extern unsigned file_count;
+const struct file *keep(enum function reader, const char *name, const uint8_t *bytes, size_t length);
+struct tried_call read_call(const struct file *file);
+void try_read_lengths(const struct file *file);
 void try_file(const char *name, const uint8_t *bytes, size_t length, uint32_t due, const uint8_t *area);
 void try_stored(const char *path);
 
 /* made.c, reads.c */
 uint64_t next(uint64_t *seed);
 void try_made(void);
+
+/* scs.c */
+void try_scs(void);
+void try_scs_writes(const char *name);
 
 /* machines.c, looks.c, corrections.c: all that is done with a machine once it is read. */
 void use_machine(const char *name);

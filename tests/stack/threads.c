@@ -43,11 +43,13 @@ static struct tried_call pick(const struct lent_buffers *lent, uint64_t *seed)
 {
     static const enum function often[19] = {BYTE, BYTE, BYTE, PAIR, PAIR, PAIR,    OUT,   OUT,        UNDO, UNDO,
                                             UNDO, REDO, REDO, VIEW, VIEW, VERSION, MODEL, PAIR_VALUE, PLACE};
-    static const enum function seldom[4] = {START, START, READ, WRITE};
+    static const enum function seldom[5] = {START, START, READ, WRITE, SCS_WRITE};
     uint64_t word = next(seed);
-    enum function function = word % 20 < 19 ? often[word % 20] : seldom[word / 20 % 4];
-    struct tried_call call = usual(function, lent);
+    enum function function = word % 20 < 19 ? often[word % 20] : seldom[word / 20 % 5];
     const struct file *file = &files[(word >> 8) % file_count];
+    if (function == READ)
+        function = file->reader;
+    struct tried_call call = usual(function, lent);
     call.file = file->bytes;
     call.file_len = file->length;
     call.place = (uint16_t)(function == BYTE || function == PLACE ? word >> 16 : (word >> 16) % 13);
@@ -67,9 +69,9 @@ static uint64_t sum_of(const struct lent_buffers *lent, const struct tried_call 
     sum = add(sum, &lent->length, sizeof lent->length);
     sum = add(sum, &lent->start, sizeof lent->start);
     sum = add(sum, &lent->figures, sizeof lent->figures);
-    if (call->function == READ || at % 64 == 0)
+    if (call->function == READ || call->function == SCS_READ || at % 64 == 0)
         sum = add(sum, lent->area, sizeof lent->area);
-    if (call->function == WRITE)
+    if (call->function == WRITE || call->function == SCS_WRITE)
         sum = add(sum, lent->out, sizeof lent->out);
     return sum;
 }
