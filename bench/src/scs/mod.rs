@@ -3,7 +3,7 @@
 use crate::ffi_snapshot as ffi;
 use bench::timing::Contender;
 use reference::machine::{header, Machine, Model};
-use reference::memory::{images, MEMORY, PAGE};
+use reference::memory::{images, PAGE};
 use reference::scs;
 use std::cell::RefCell;
 use std::hint::black_box;
@@ -11,11 +11,14 @@ use std::hint::black_box;
 /// Where the memory begins in a file.
 const MEMORY_AT: usize = scs::SCS_START + scs::SCS_BLOCK_HEAD;
 
-/// A machine and its file, and what all contenders read into and write to.
+/// A machine and its file, and what all contenders read into and write to: an area, and an output of the file's length.
 pub struct ScsWork {
     header: Vec<u8>,
     file: Vec<u8>,
-    pages: &'static [usize],
+    /// The pages that lie one after the other in file and area: the first of them, and how many.
+    spans: &'static [(usize, usize)],
+    /// The pages that the machine does not own.
+    cleared: &'static [usize],
     area: RefCell<Vec<u8>>,
     machine: RefCell<Vec<u8>>,
     out: RefCell<Vec<u8>>,
@@ -30,12 +33,14 @@ impl ScsWork {
         let (_, memory) = images(3).swap_remove(0);
         let file = scs::write(&machine, &memory);
         let (_, area) = scs::read(&file).expect("our own file");
+        let (spans, cleared): (&[_], &[_]) = match model {
+            Model::K48 => (&[(5, 1), (2, 1), (0, 1)], &[1, 3, 4, 6, 7]),
+            Model::K128 => (&[(0, 8)], &[]),
+        };
         ScsWork {
             header: header(&machine).to_vec(),
-            pages: match model {
-                Model::K48 => &[5, 2, 0],
-                Model::K128 => &[0, 1, 2, 3, 4, 5, 6, 7],
-            },
+            spans,
+            cleared,
             area: RefCell::new(area),
             machine: RefCell::new(header(&machine).to_vec()),
             out: RefCell::new(vec![0; file.len()]),
@@ -54,9 +59,12 @@ impl ScsWork {
         self.out.borrow_mut().fill(0xA5);
         (self.write())();
         assert!(*self.out.borrow() == self.file, "the file written differs");
-        (self.copy_in())();
+        self.area.borrow_mut().fill(0xA5);
+        (self.copy_in_and_clear())();
+        assert!(*self.area.borrow() == memory, "the memory copied differs");
+        self.out.borrow_mut()[MEMORY_AT..][..PAGE].fill(0xA5);
         (self.copy_out())();
-        assert!(*self.area.borrow() == memory && *self.out.borrow() == self.file);
+        assert!(*self.out.borrow() == self.file, "the copy in it differs");
     }
 
     pub fn read(&self) -> Contender<'_> {
@@ -86,10 +94,12 @@ impl ScsWork {
     /// The memory of the file copied into its pages of the area, and nothing else.
     pub fn copy_in(&self) -> Contender<'_> {
         Box::new(|| {
-            let (area, file) = (&mut *self.area.borrow_mut(), black_box(&self.file));
-            let area = black_box(area);
-            for (part, page) in file[MEMORY_AT..].chunks_exact(PAGE).zip(self.pages) {
-                area[page * PAGE..][..PAGE].copy_from_slice(part);
+            let area = &mut *self.area.borrow_mut();
+            let (area, mut from) = (black_box(area), &black_box(&self.file)[MEMORY_AT..]);
+            for (page, count) in self.spans {
+                let (part, rest) = from.split_at(count * PAGE);
+                area[page * PAGE..][..count * PAGE].copy_from_slice(part);
+                from = rest;
             }
         })
     }
@@ -98,9 +108,11 @@ impl ScsWork {
     pub fn copy_out(&self) -> Contender<'_> {
         Box::new(|| {
             let (area, out) = (self.area.borrow(), &mut *self.out.borrow_mut());
-            let (area, out) = (black_box(&area), black_box(out));
-            for (part, page) in out[MEMORY_AT..].chunks_exact_mut(PAGE).zip(self.pages) {
-                part.copy_from_slice(&area[page * PAGE..][..PAGE]);
+            let (area, mut to) = (black_box(&area), &mut black_box(out)[MEMORY_AT..]);
+            for (page, count) in self.spans {
+                let (part, rest) = to.split_at_mut(count * PAGE);
+                part.copy_from_slice(&area[page * PAGE..][..count * PAGE]);
+                to = rest;
             }
         })
     }
@@ -111,7 +123,7 @@ impl ScsWork {
         Box::new(move || {
             copy();
             let area = &mut *self.area.borrow_mut();
-            for page in (0..MEMORY / PAGE).filter(|page| !self.pages.contains(page)) {
+            for page in self.cleared {
                 black_box(&mut area[page * PAGE..][..PAGE]).fill(0);
             }
         })

@@ -5,14 +5,12 @@ use crate::machine::{header, own_header, Machine, HEADER};
 use crate::memory::MEMORY;
 use crate::refusal::{number, Refusal, ACCEPTED};
 
+/// Gives the machine and the memory of a file, or the first number that refuses it.
+type FileReader = fn(&[u8]) -> Result<(Machine, Vec<u8>), Refusal>;
+
 /// Reads a file into the area and the header. Refused: a zero area, the blank machine's header, and zeros
 /// where the header is not 86 bytes long.
-pub fn read_bytes(
-    read: fn(&[u8]) -> Result<(Machine, Vec<u8>), Refusal>,
-    file: &[u8],
-    area: &mut [u8],
-    header_bytes: &mut [u8],
-) -> u32 {
+pub fn read_bytes(read: FileReader, file: &[u8], area: &mut [u8], header_bytes: &mut [u8]) -> u32 {
     area.fill(0);
     header_bytes.fill(0);
     if header_bytes.len() != HEADER {

@@ -64,6 +64,13 @@ impl ScsFileParts {
         borders
     }
 
+    /// Where each block's head stands in the file.
+    pub fn heads(&self) -> Vec<usize> {
+        let mut borders = self.borders();
+        borders.pop();
+        borders
+    }
+
     /// The size of each block as its data are.
     pub fn sized(mut self) -> ScsFileParts {
         for block in &mut self.blocks {

@@ -78,12 +78,11 @@ fn with_skipped(maker: &mut ScsMaker) -> ScsFileParts {
 pub fn near_2_to_32(group: &mut Group, check: &mut FileChecker, maker: &mut ScsMaker) -> Outcome {
     for _ in 0..6 {
         let sample = with_skipped(maker);
-        let borders = sample.borders();
         let length = sample.bytes().len();
-        for place in 0..sample.blocks.len() {
-            let left = length - borders[place] - SCS_BLOCK_HEAD;
+        for (place, head) in sample.heads().into_iter().enumerate() {
+            let left = length - head - SCS_BLOCK_HEAD;
             let mut sizes = too_large(left, maker);
-            sizes.extend(wrapping(borders[place], length));
+            sizes.extend(wrapping(head, length));
             for size in sizes {
                 let mut damaged = sample.clone();
                 damaged.blocks[place].size = size;
@@ -99,10 +98,9 @@ pub fn near_2_to_32(group: &mut Group, check: &mut FileChecker, maker: &mut ScsM
 pub fn every_size(group: &mut Group, check: &mut FileChecker, maker: &mut ScsMaker) -> Outcome {
     for _ in 0..8 {
         let sample = with_skipped(maker);
-        let borders = sample.borders();
         let length = sample.bytes().len();
-        for place in 0..sample.blocks.len() {
-            let left = (length - borders[place] - SCS_BLOCK_HEAD) as u32;
+        for (place, head) in sample.heads().into_iter().enumerate() {
+            let left = (length - head - SCS_BLOCK_HEAD) as u32;
             for size in 0..=left + 1 {
                 let mut damaged = sample.clone();
                 damaged.blocks[place].size = size;
