@@ -128,10 +128,12 @@ static void read_scs(const char *name, int is_128k)
 
 static void refuse_scs(const char *name, uint32_t due)
 {
+    static const uint8_t zeros[SNAP_AREA_SIZE];
     const struct file *file = keep(SCS_READ, name, made.bytes, made.length);
     struct tried_call call = read_call(file);
     try_read_lengths(file);
     try_call(name, &call, due);
+    expect_holds(name, "the area is not zero", memcmp(ordinary.area, zeros, sizeof zeros) == 0);
 }
 
 static void put_end(void)
