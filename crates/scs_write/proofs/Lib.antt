@@ -1,4 +1,4 @@
-mod ScsLaid
+pub mod ScsLaid
 pub mod ScsFiles
 pub mod ScsFits
 pub mod Theorems

@@ -18,7 +18,7 @@ use Rattle.scs_write.proofs.ScsLaid.{ports-long, rows}
 abbrev frontOf : Model → List ℕ
 frontOf model = scsHeader model ++ (3 ∷ sizeBytes (memorySize model))
 
-cpu-long : (m : Machine) → length (scsCpu m) ≡ 34
+pub cpu-long : (m : Machine) → length (scsCpu m) ≡ 34
 unfolding scsCpu
 cpu-long m = refl
 

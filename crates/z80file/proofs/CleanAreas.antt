@@ -115,7 +115,7 @@ clean-part area xs page k l c o h g =
     let p : length (take 16384 (drop k xs)) ≡ 16384 = simp (length-take, length-drop) (omega arith) in
     clean-put K48 area (take 16384 (drop k xs)) page c o h p
 
-clean-spread : (xs : List ℕ) → length xs ≡ 49152 → Clean K48 (spread (blank 131072) xs)
+pub clean-spread : (xs : List ℕ) → length xs ≡ 49152 → Clean K48 (spread (blank 131072) xs)
 unfolding spread
 clean-spread xs l =
     clean-part _ xs 0 32768 l

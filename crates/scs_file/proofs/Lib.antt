@@ -1,0 +1,5 @@
+pub mod ScsAreas
+mod ScsStepOver
+pub mod ScsFileBack
+pub mod ScsStarts
+pub mod Theorems

@@ -1,0 +1,2 @@
+pub mod ScsRoundTrip
+pub mod Theorems
