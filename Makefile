@@ -49,7 +49,7 @@ $(LIB): crates.txt $(shell find crates -name '*.rt' -o -name '*.antt')
 
 tool: target/snapshot
 
-target/snapshot: $(TOOL_PARTS) tools/tool.h include/snapshot.h $(LIB)
+target/snapshot: $(TOOL_PARTS) $(wildcard tools/*.h) include/snapshot.h $(LIB)
 	$(CC) $(ALL_CFLAGS) $(LDFLAGS) $(TOOL_PARTS) $(LIB) -lpng -lz -ledit -o $@
 
 examples: target/examples/server_slots target/examples/corrections

@@ -10,6 +10,7 @@ _snapshot() {
     case $before in
         --scale) offered="1 2 3 4 5 6 7 8" ;;
         --page) offered="5 7" ;;
+        --format) offered="z80 scs" ;;
         -o | --output | --rom | --script | --log) ;;
         *)
             if [ "$COMP_CWORD" -eq 1 ]; then
@@ -20,8 +21,8 @@ _snapshot() {
                     view) offered="--rom --raw" ;;
                     find) offered="--text --hex" ;;
                     screen) offered="--scale --page --scr --force" ;;
-                    edit) offered="-o --script --log --new-log --force" ;;
-                    write) offered="-o --force" ;;
+                    edit) offered="-o --format --script --log --new-log --force" ;;
+                    write) offered="-o --format --force" ;;
                 esac
                 offered="$offered --help"
             fi

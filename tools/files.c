@@ -22,16 +22,14 @@ long read_up_to(int from, uint8_t *bytes, size_t room)
     return (long)length;
 }
 
-static enum status read_all(int from, const char *path, uint8_t *bytes, size_t most, size_t *length)
+static enum status read_stream(int from, const char *name, uint8_t *bytes, size_t room, size_t *length)
 {
-    long got = read_up_to(from, bytes, most + 1);
+    long got = read_up_to(from, bytes, room);
     *length = got < 0 ? 0 : (size_t)got;
-    if (got < 0)
-        return unread_errno(path, "cannot be read");
-    return *length > most ? unread(path, "longer than any file of its kind") : ACCEPTED;
+    return got < 0 ? unread_errno(name, "cannot be read") : ACCEPTED;
 }
 
-enum status read_bounded(const char *path, uint8_t *bytes, size_t most, size_t *length)
+static enum status read_regular(const char *path, uint8_t *bytes, size_t room, size_t *length)
 {
     struct stat about;
     *length = 0;
@@ -47,30 +45,41 @@ enum status read_bounded(const char *path, uint8_t *bytes, size_t most, size_t *
     else if (!S_ISREG(about.st_mode))
         status = unread(path, "is a pipe or a device, not a file");
     else
-        status = read_all(from, path, bytes, most, length);
+        status = read_stream(from, path, bytes, room, length);
     close(from);
     return status;
 }
 
-enum status open_to_look(const char *path, struct snapshot *opened)
+enum status read_bounded(const char *path, uint8_t *bytes, size_t most, size_t *length)
 {
-    static uint8_t file[SNAP_READ_MOST + 1];
-    const char *name = input_name(path);
-    enum status status = name != path ? read_all(STDIN_FILENO, name, file, SNAP_READ_MOST, &opened->length)
-                                      : read_bounded(path, file, SNAP_READ_MOST, &opened->length);
-    if (status != ACCEPTED)
-        return status;
-    opened->version = version_of(file, opened->length);
-    opened->says_16k = says_16k(file, opened->length);
-    uint32_t number = snap_z80_read(file, opened->length, opened->area, sizeof opened->area, opened->header,
-                                    sizeof opened->header);
-    return number == SNAP_ACCEPTED ? ACCEPTED : refused_file(name, number, file, opened->length);
+    enum status status = read_regular(path, bytes, most + 1, length);
+    return status == ACCEPTED && *length > most ? unread(path, "longer than any file of its kind") : status;
 }
 
-enum status open_snapshot(const char *path, struct snapshot *opened)
+enum status open_to_look(const char *path, struct snapshot *opened)
 {
+    static uint8_t file[INPUT_MOST + 1];
+    size_t length;
+    const char *name = input_name(path);
+    enum status status = name != path ? read_stream(STDIN_FILENO, name, file, sizeof file, &length)
+                                      : read_regular(path, file, sizeof file, &length);
+    if (status != ACCEPTED)
+        return status;
+    struct taking taken = take_snapshot(file, length, opened);
+    if (taken.fault != NULL)
+        return unread(name, taken.fault);
+    return is_accepted(&taken) ? ACCEPTED : refused_file(name, taken.number, taken.bytes, taken.length);
+}
+
+enum status open_to_save(const char *path, enum file_kind kind, struct snapshot *opened)
+{
+    static struct snapshot kept;
     enum status status = open_to_look(path, opened);
-    if (status == ACCEPTED && opened->says_16k)
+    if (status != ACCEPTED)
+        return status;
+    if (opened->says_16k)
         warn(input_name(path), "says 16K; it is written as a 48K");
-    return status;
+    kept_in(kind, opened, &kept);
+    tell_lost(input_name(path), opened, &kept);
+    return ACCEPTED;
 }

@@ -47,6 +47,10 @@ void hint_for(uint32_t number, const uint8_t *file, size_t length, char hint[HIN
 {
     unsigned word = word_at_30(file, length);
     char mode[32] = "";
+    if (is_scs(file, length)) {
+        hint_for_scs(number, file, length, hint);
+        return;
+    }
     if (length > SNAP_AT_MODE)
         snprintf(mode, sizeof mode, "mode %u%s", file[SNAP_AT_MODE], mode_name(file[SNAP_AT_MODE]));
     hint[0] = 0;

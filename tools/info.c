@@ -95,9 +95,21 @@ void print_info(FILE *to, const char *file, const struct snapshot *opened)
     print_machine(to, opened, "");
 }
 
+static void print_format(FILE *to, const struct snapshot *opened)
+{
+    if (opened->kind == SCS_FILE)
+        fputs("Format     SCS", to);
+    else
+        fprintf(to, "Format     version %u", opened->version);
+    if (opened->unwrapped != 0)
+        fprintf(to, " in gzip, %u bytes, %u unwrapped\n", (unsigned)opened->length, (unsigned)opened->unwrapped);
+    else
+        fprintf(to, ", %u bytes\n", (unsigned)opened->length);
+}
+
 void print_file_info(FILE *to, const char *file, const struct snapshot *opened)
 {
     fprintf(to, "File       %s\n", shown(file));
-    fprintf(to, "Format     version %u, %u bytes\n", opened->version, (unsigned)opened->length);
+    print_format(to, opened);
     print_machine(to, opened, opened->says_16k ? " (the file says 16K)" : "");
 }

@@ -80,12 +80,27 @@ static void print_json_pages(FILE *to, const struct machine *m, const struct sna
     fputs("\n  ]\n", to);
 }
 
+/* An SCS file has no version, and a file without a wrapper no length unwrapped: these are null. */
+static void print_json_format(FILE *to, const struct snapshot *opened)
+{
+    if (opened->kind == SCS_FILE)
+        fputs("  \"format\": \"SCS\",\n  \"version\": null,\n", to);
+    else
+        fprintf(to, "  \"format\": \"Z80\",\n  \"version\": %u,\n", opened->version);
+    fprintf(to, "  \"length\": %u,\n", (unsigned)opened->length);
+    if (opened->unwrapped != 0)
+        fprintf(to, "  \"unwrapped\": %u,\n", (unsigned)opened->unwrapped);
+    else
+        fputs("  \"unwrapped\": null,\n", to);
+}
+
 void print_json(FILE *to, const char *file, const struct snapshot *opened)
 {
     struct machine m = machine_of(opened->header);
     fputs("{\n  \"file\": ", to);
     print_string(to, file);
-    fprintf(to, ",\n  \"version\": %u,\n  \"length\": %u,\n", opened->version, (unsigned)opened->length);
+    fputs(",\n", to);
+    print_json_format(to, opened);
     const char *kind = m.is_128k ? "128K" : "48K";
     fprintf(to, "  \"machine\": \"%s\",\n  \"hardware\": \"%s\",\n", kind, opened->says_16k ? "16K" : kind);
     fprintf(to, "  \"attachment\": \"%s\",\n", m.attachment);

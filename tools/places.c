@@ -72,7 +72,7 @@ bool same_file(const char *one, const char *other)
 }
 
 /* What stood at the target that was looked at last. No file of any kind is longer; of one that is, this is the beginning. */
-static uint8_t seen[SNAP_READ_MOST + 1];
+static uint8_t seen[INPUT_MOST + 1];
 static size_t seen_length;
 
 struct file_state state_of_bytes(const uint8_t *bytes, size_t length)
@@ -97,11 +97,20 @@ bool look_at(const char *target, struct file_state *state)
     return true;
 }
 
-static bool is_snapshot(void)
+/* Of the two formats neither replaces the other: a name would no longer fit, and an SCS file holds less. */
+static enum status check_format(const char *name, enum file_kind kind)
 {
-    static struct snapshot opened;
-    return seen_length == 0 || snap_z80_read(seen, seen_length, opened.area, sizeof opened.area, opened.header,
-                                             sizeof opened.header) == SNAP_ACCEPTED;
+    static struct snapshot found;
+    if (seen_length == 0)
+        return ACCEPTED;
+    struct taking taken = take_snapshot(seen, seen_length, &found);
+    if (!is_accepted(&taken))
+        return cannot(name, "is there and is no snapshot; only --force replaces it");
+    if (found.kind == kind)
+        return ACCEPTED;
+    return cannot(name, kind == SCS_FILE ? "is there and is a .Z80 file; only --force replaces it by an SCS file"
+                                         : "is there and is an SCS file; '--format scs' saves one, and only --force"
+                                           " replaces it by a .Z80 file");
 }
 
 static bool is_picture(void)
@@ -127,8 +136,8 @@ static enum status check_kind(const char *name, enum file_kind kind, bool force)
 {
     if (kind == LOG_FILE)
         return check_log(name, seen, seen_length);
-    if (kind == SNAPSHOT_FILE && !force && !is_snapshot())
-        return cannot(name, "is there and is no snapshot; only --force replaces it");
+    if ((kind == Z80_FILE || kind == SCS_FILE) && !force)
+        return check_format(name, kind);
     if (kind == PICTURE_FILE && !force && !is_picture())
         return cannot(name, "is there and is no PNG; only --force replaces it");
     if (kind == SCREEN_FILE && !force && !is_screen())

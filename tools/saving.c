@@ -197,11 +197,12 @@ enum status save_files(struct output *outputs, unsigned count, struct known_file
     return status;
 }
 
-enum status snapshot_bytes(const char *path, const struct snapshot *opened, uint8_t file[SNAP_FILE_MOST], size_t *length)
+enum status snapshot_bytes(const char *path, const struct snapshot *opened, enum file_kind kind, uint8_t file[SNAP_FILE_MOST],
+                           size_t *length)
 {
     uint64_t written;
-    uint32_t number = snap_z80_write(opened->header, sizeof opened->header, opened->area, sizeof opened->area, file,
-                                     SNAP_FILE_MOST, &written);
+    uint32_t number = (kind == SCS_FILE ? snap_scs_write : snap_z80_write)(
+        opened->header, sizeof opened->header, opened->area, sizeof opened->area, file, SNAP_FILE_MOST, &written);
     *length = (size_t)written;
     return number == SNAP_ACCEPTED ? ACCEPTED : refused(path, number);
 }

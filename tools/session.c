@@ -40,7 +40,7 @@ static enum status check_places(struct editing *session)
 {
     const char *output = session->words->output;
     char log[PATH_ROOM], target[PATH_ROOM], *log_target = session->log_target;
-    enum status status = check_and_know(session, output, SNAPSHOT_FILE, target);
+    enum status status = check_and_know(session, output, session->words->kind, target);
     if (status == ACCEPTED)
         status = log_name(session, output, log);
     if (status == ACCEPTED)
@@ -66,7 +66,7 @@ enum status begin_session(struct editing *session, const struct edit_words *word
         return status;
     know_input(&session->known, words->file);
     know_input(&session->known, log);
-    status = open_snapshot(words->file, &session->opened);
+    status = open_to_save(words->file, words->kind, &session->opened);
     if (status == ACCEPTED && !words->new_log)
         status = load_log(log, &session->opened, words->log != NULL, kept);
     return status;
@@ -88,18 +88,22 @@ enum status save_session(struct editing *session, const char *name, bool force)
 {
     static uint8_t file[SNAP_FILE_MOST], log_file[LOG_FILE_MOST];
     static struct output outputs[2];
+    static struct snapshot kept;
     char log[PATH_ROOM];
+    enum file_kind kind = session->words->kind;
     enum status status = name != NULL ? check_name(session, name) : ACCEPTED;
     if (status != ACCEPTED)
         return status;
     status = name != NULL ? log_beside_target(name, log) : log_name(session, session->words->output, log);
     name = name != NULL ? name : session->words->output;
     force = force || session->words->force;
-    outputs[0] = (struct output){.name = name, .kind = SNAPSHOT_FILE, .force = force, .bytes = file};
+    outputs[0] = (struct output){.name = name, .kind = kind, .force = force, .bytes = file};
     outputs[1] = (struct output){.name = log, .kind = LOG_FILE, .force = force, .bytes = log_file};
-    outputs[1].length = log_bytes(&session->opened, &session->log, log_file);
+    /* the log belongs to what the file will be opened as */
+    kept_in(kind, &session->opened, &kept);
+    outputs[1].length = log_bytes(&kept, &session->log, log_file);
     if (status == ACCEPTED)
-        status = snapshot_bytes(name, &session->opened, file, &outputs[0].length);
+        status = snapshot_bytes(name, &session->opened, kind, file, &outputs[0].length);
     if (status == ACCEPTED)
         status = save_files(outputs, 2, &session->known);
     if (outputs[0].renamed)

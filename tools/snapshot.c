@@ -86,23 +86,40 @@ static enum status run_screen(const struct words *words)
     return status == ACCEPTED ? save_screen(output, force, bytes, m.border, scale) : status;
 }
 
+/* The format of the snapshot that is written. */
+static enum status take_format(const struct words *words, enum file_kind *kind)
+{
+    const char *value = words->options[OPTION_FORMAT];
+    *kind = value != NULL && strcmp(value, "scs") == 0 ? SCS_FILE : Z80_FILE;
+    if (value == NULL || *kind == SCS_FILE || strcmp(value, "z80") == 0)
+        return ACCEPTED;
+    return misused("'--format' takes %s, not '%s'", option_table[OPTION_FORMAT].value, value);
+}
+
 static enum status run_edit(const struct words *words)
 {
     const char *file = words->names[0], *output = words->options[OPTION_OUTPUT], *log = words->options[OPTION_LOG];
+    enum file_kind kind;
+    enum status status = take_format(words, &kind);
+    if (status != ACCEPTED)
+        return status;
     if (is_stream(file) || is_stream(output) || (log != NULL && is_stream(log)))
         return misused("'snapshot edit' takes files, not '-'; a file of that name is './-'");
     return edit(&(struct edit_words){.file = file, .output = output, .script = words->options[OPTION_SCRIPT],
-                                     .log = log, .force = words->options[OPTION_FORCE] != NULL,
+                                     .log = log, .kind = kind, .force = words->options[OPTION_FORCE] != NULL,
                                      .new_log = words->options[OPTION_NEW_LOG] != NULL});
 }
 
 static enum status run_write(const struct words *words)
 {
     const char *output = words->options[OPTION_OUTPUT];
-    enum status status = check_output(output);
+    enum file_kind kind;
+    enum status status = take_format(words, &kind);
     if (status == ACCEPTED)
-        status = open_snapshot(words->names[0], &opened);
-    return status == ACCEPTED ? output_snapshot(output, &opened, words->options[OPTION_FORCE] != NULL) : status;
+        status = check_output(output);
+    if (status == ACCEPTED)
+        status = open_to_save(words->names[0], kind, &opened);
+    return status == ACCEPTED ? output_snapshot(output, &opened, kind, words->options[OPTION_FORCE] != NULL) : status;
 }
 
 const struct command command_table[] = {
@@ -113,9 +130,10 @@ const struct command command_table[] = {
      "every place of a text, or of bytes as an even number of hex digits"},
     {"screen", {"FILE", "OUT"}, {OPTION_SCALE, OPTION_PAGE, OPTION_SCR, OPTION_FORCE}, run_screen,
      "the picture on the saved screen, as a PNG"},
-    {"edit", {"FILE"}, {OPTION_OUTPUT, OPTION_SCRIPT, OPTION_LOG, OPTION_NEW_LOG, OPTION_FORCE}, run_edit,
+    {"edit", {"FILE"}, {OPTION_OUTPUT, OPTION_FORMAT, OPTION_SCRIPT, OPTION_LOG, OPTION_NEW_LOG, OPTION_FORCE}, run_edit,
      "corrections, undo and redo, from a prompt or a script"},
-    {"write", {"FILE"}, {OPTION_OUTPUT, OPTION_FORCE}, run_write, "the same machine and memory as a version 3 file"},
+    {"write", {"FILE"}, {OPTION_OUTPUT, OPTION_FORMAT, OPTION_FORCE}, run_write,
+     "the same machine and memory as a version 3 .Z80 file, or as SCS"},
 };
 const size_t command_count = sizeof command_table / sizeof command_table[0];
 
@@ -129,6 +147,7 @@ const struct option_form option_table[OPTIONS] = {
     [OPTION_PAGE] = {"--page", "5|7", "the page that the screen is in, whichever was shown"},
     [OPTION_SCR] = {"--scr", NULL, "the 6,912 bytes of the screen, not a PNG"},
     [OPTION_OUTPUT] = {"--output", "OUT", "the file that is written"},
+    [OPTION_FORMAT] = {"--format", "z80|scs", "the format of that file; without it, a version 3 .Z80 file"},
     [OPTION_SCRIPT] = {"--script", "SCRIPT", "a file of lines instead of the prompt"},
     [OPTION_LOG] = {"--log", "LOG", "the file of the correction log"},
     [OPTION_NEW_LOG] = {"--new-log", NULL, "begins with an empty log, whatever is kept"},
@@ -140,6 +159,7 @@ static void print_usage(FILE *to)
     for (size_t at = 0; at < command_count; at++)
         print_form(to, &command_table[at]);
     fputs("snapshot help [COMMAND], snapshot [COMMAND] --help, snapshot --version\n"
+          "FILE is a .Z80 or SCS file, plain or in gzip.\n"
           "FILE may be -, standard input; OUT may be -, standard output; not in edit.\n"
           "Exit status: 0 accepted, 1 refused, 2 wrong use, 3 system error.\n"
           "See snapshot(1).\n", to);

@@ -32,10 +32,10 @@ enum status output_bytes(const char *path, enum file_kind kind, bool force, cons
     return ACCEPTED;
 }
 
-enum status output_snapshot(const char *path, const struct snapshot *opened, bool force)
+enum status output_snapshot(const char *path, const struct snapshot *opened, enum file_kind kind, bool force)
 {
     static uint8_t file[SNAP_FILE_MOST];
     size_t length;
-    enum status status = snapshot_bytes(is_stream(path) ? "standard output" : path, opened, file, &length);
-    return status == ACCEPTED ? output_bytes(path, SNAPSHOT_FILE, force, file, length) : status;
+    enum status status = snapshot_bytes(is_stream(path) ? "standard output" : path, opened, kind, file, &length);
+    return status == ACCEPTED ? output_bytes(path, kind, force, file, length) : status;
 }

@@ -2,22 +2,12 @@
 #ifndef TOOL_H
 #define TOOL_H
 
-#include <stdbool.h>
 #include <stdio.h>
 
-#include "snapshot.h"
+#include "opening.h"
 
 /* What the tool exits with. */
 enum status { ACCEPTED = 0, REFUSED = 1, USAGE = 2, SYSTEM = 3 };
-
-/* An opened file: the machine as its header, its memory, and what the file says of itself. */
-struct snapshot {
-    uint8_t header[SNAP_HEADER_SIZE];
-    uint8_t area[SNAP_AREA_SIZE];
-    unsigned version;
-    size_t length;
-    bool says_16k;
-};
 
 /* report.c: a sentence on standard error; most answer the status that goes with it. */
 enum status refused(const char *file, uint32_t number);
@@ -38,15 +28,6 @@ unsigned character_length(const unsigned char *s);
 /* Whether a well-formed character ends a line, moves the cursor or turns the direction of what follows. */
 bool is_control_character(const unsigned char *s, unsigned length);
 
-/* format.c: what the bytes of a .Z80 file say of themselves. */
-#define HINT_SIZE 200u
-/* 1, 2 or 3, of a file that is accepted. */
-unsigned version_of(const uint8_t *file, size_t length);
-/* A 48K machine with modified hardware. */
-bool says_16k(const uint8_t *file, size_t length);
-/* What helps with a refusal, or nothing. */
-void hint_for(uint32_t number, const uint8_t *file, size_t length, char hint[HINT_SIZE]);
-
 /* unread.c: what is said of an input that is not accepted; after tell_in_json(), as JSON on standard output. */
 void tell_in_json(void);
 enum status unread(const char *file, const char *sentence);
@@ -58,13 +39,12 @@ enum status refused_file(const char *file, uint32_t number, const uint8_t *bytes
 enum status read_bounded(const char *path, uint8_t *bytes, size_t most, size_t *length);
 /* Reads until the end, or until there is no more room; -1 for an error. */
 long read_up_to(int from, uint8_t *bytes, size_t room);
-/* Opens a file, or standard input, to look at it; open_snapshot() also tells what will be different when it is saved. */
+/* Opens a file, or standard input, to look at it; open_to_save() also tells what will be different when it is saved. */
 enum status open_to_look(const char *path, struct snapshot *opened);
-enum status open_snapshot(const char *path, struct snapshot *opened);
+enum status open_to_save(const char *path, enum file_kind kind, struct snapshot *opened);
 
 /* places.c: where a file is saved. Its target is the file itself: an absolute path, links followed. */
 #define PATH_ROOM 4096
-enum file_kind { SNAPSHOT_FILE, PICTURE_FILE, SCREEN_FILE, LOG_FILE };
 /* What stands at a target; length and sum tell it from anything else. */
 struct file_state {
     bool present;
@@ -105,7 +85,8 @@ struct output {
 /* Saves one file or two under temporary names and renames: until then, and if it fails, what stood there is whole. With
    `known`, what has changed at a target is replaced only by force, and what is saved is known. */
 enum status save_files(struct output *outputs, unsigned count, struct known_file **known);
-enum status snapshot_bytes(const char *path, const struct snapshot *opened, uint8_t file[SNAP_FILE_MOST], size_t *length);
+enum status snapshot_bytes(const char *path, const struct snapshot *opened, enum file_kind kind, uint8_t file[SNAP_FILE_MOST],
+                           size_t *length);
 
 /* streams.c: standard input and standard output, which a - stands for. */
 bool is_stream(const char *path);
@@ -113,7 +94,7 @@ const char *input_name(const char *path);
 /* Wrong use where the bytes would go to a terminal. */
 enum status check_output(const char *path);
 enum status output_bytes(const char *path, enum file_kind kind, bool force, const uint8_t *bytes, size_t length);
-enum status output_snapshot(const char *path, const struct snapshot *opened, bool force);
+enum status output_snapshot(const char *path, const struct snapshot *opened, enum file_kind kind, bool force);
 
 /* machine.c: what the 86 header bytes say. */
 struct machine {
@@ -213,6 +194,7 @@ void print_step(FILE *to, const struct log *log, uint64_t step, bool back);
 /* session.c: an editing session. */
 struct edit_words {
     const char *file, *output, *script, *log;
+    enum file_kind kind;
     bool force, new_log;
 };
 struct editing {
@@ -262,7 +244,7 @@ enum status edit(const struct edit_words *words);
 /* options.c: the command line, by the tables in snapshot.c. */
 enum option_number {
     NO_OPTION, OPTION_JSON, OPTION_ROM, OPTION_RAW, OPTION_TEXT, OPTION_HEX, OPTION_SCALE, OPTION_PAGE, OPTION_SCR,
-    OPTION_OUTPUT, OPTION_SCRIPT, OPTION_LOG, OPTION_NEW_LOG, OPTION_FORCE, OPTIONS
+    OPTION_OUTPUT, OPTION_FORMAT, OPTION_SCRIPT, OPTION_LOG, OPTION_NEW_LOG, OPTION_FORCE, OPTIONS
 };
 /* An option's value is NULL where it is not given, and not NULL where it is given and takes none. */
 struct words {

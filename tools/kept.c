@@ -1,0 +1,44 @@
+/* kept.c: what a file gives back of the machine that is written into it. An SCS file does not hold all of it. */
+#include <string.h>
+
+#include "tool.h"
+
+void kept_in(enum file_kind kind, const struct snapshot *opened, struct snapshot *kept)
+{
+    static uint8_t file[SNAP_FILE_MOST];
+    uint64_t length;
+    *kept = *opened;
+    if (kind != SCS_FILE)
+        return;
+    /* neither is refused: the machine is valid, and there is room for it */
+    snap_scs_write(opened->header, sizeof opened->header, opened->area, sizeof opened->area, file, sizeof file, &length);
+    snap_scs_read(file, (size_t)length, kept->area, sizeof kept->area, kept->header, sizeof kept->header);
+}
+
+/* The parts of a header that may be lost, each with its last byte, in info's words. */
+static const struct header_part {
+    unsigned first, last;
+    const char *name;
+} header_parts[] = {
+    {SNAP_AT_MODE, SNAP_AT_MODE, "attachment"},
+    {SNAP_AT_OUT_FFFD, SNAP_AT_OUT_FFFD, "upper four bits of the last OUT to FFFD"},
+    {SNAP_AT_LOW_COUNTER, SNAP_AT_HIGH_COUNTER, "clock"},
+    {SNAP_AT_SETTINGS, SNAP_AT_SETTINGS, "settings"},
+    {SNAP_AT_INTERFACE_1_ROM, SNAP_AT_INTERFACE_1_ROM, "byte 36"},
+    {SNAP_AT_EMULATION, SNAP_AT_EMULATION, "byte 37"},
+    {SNAP_AT_MGT_ROM, SNAP_AT_MGT_ROM, "byte 59"},
+    {SNAP_AT_ROM_LOW, SNAP_AT_INHIBIT_FLAG, "bytes 61 to 85"},
+};
+
+void tell_lost(const char *file, const struct snapshot *opened, const struct snapshot *kept)
+{
+    char lost[200] = "";
+    size_t length = 0;
+    for (size_t k = 0; k < sizeof header_parts / sizeof header_parts[0]; k++) {
+        const struct header_part *part = &header_parts[k];
+        if (memcmp(opened->header + part->first, kept->header + part->first, part->last - part->first + 1) != 0)
+            length += (size_t)snprintf(lost + length, sizeof lost - length, "%s%s", length == 0 ? "" : ", ", part->name);
+    }
+    if (length > 0)
+        warn(file, "an SCS file does not hold all of it; lost: %s", lost);
+}

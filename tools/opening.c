@@ -1,0 +1,56 @@
+/* opening.c: the bytes of a file taken as a snapshot: a .Z80 or SCS file, or one of them in gzip. */
+#include "tool.h"
+
+/* What is wrong with a length, or NULL. */
+static const char *too_long(const uint8_t *bytes, size_t length)
+{
+    if (is_scs(bytes, length))
+        return length > INPUT_MOST ? "longer than 5,242,880 bytes, the most that is read of an SCS file" : NULL;
+    return length > SNAP_READ_MOST ? "longer than any file of its kind" : NULL;
+}
+
+static struct taking take_plain(const uint8_t *bytes, size_t length, struct snapshot *opened)
+{
+    struct taking taken = {.fault = too_long(bytes, length), .bytes = bytes, .length = length};
+    bool scs = is_scs(bytes, length);
+    opened->kind = scs ? SCS_FILE : Z80_FILE;
+    opened->version = scs ? 0 : version_of(bytes, length);
+    opened->says_16k = !scs && says_16k(bytes, length);
+    if (taken.fault == NULL)
+        taken.number = (scs ? snap_scs_read : snap_z80_read)(bytes, length, opened->area, sizeof opened->area, opened->header,
+                                                             sizeof opened->header);
+    return taken;
+}
+
+bool is_accepted(const struct taking *taken)
+{
+    return taken->fault == NULL && taken->number == SNAP_ACCEPTED;
+}
+
+/* The same of what was unwrapped. */
+static struct taking take_inside(const uint8_t *inside, size_t length, struct snapshot *opened)
+{
+    struct taking taken = take_plain(inside, length, opened);
+    if (taken.fault != NULL)
+        taken.fault = is_scs(inside, length) ? "unwrapped, it is longer than 5,242,880 bytes, the most that is read of an SCS file"
+                                             : "unwrapped, it is longer than any file of its kind";
+    return taken;
+}
+
+struct taking take_snapshot(const uint8_t *file, size_t length, struct snapshot *opened)
+{
+    static uint8_t inside[INPUT_MOST + 1];
+    opened->length = length;
+    opened->unwrapped = 0;
+    if (length > INPUT_MOST || !begins_as_gzip(file, length))
+        return take_plain(file, length, opened);
+    struct taking taken = {.fault = unwrap(file, length, inside, sizeof inside, &opened->unwrapped)};
+    if (taken.fault == NULL)
+        taken = take_inside(inside, opened->unwrapped, opened);
+    if (taken.fault == NULL)
+        return taken;
+    /* registers may look like a wrapper: what is no whole one may be a .Z80 file */
+    struct taking plain = take_plain(file, length, opened);
+    opened->unwrapped = 0;
+    return is_accepted(&plain) ? plain : taken;
+}
