@@ -21,13 +21,13 @@ static const struct header_part {
     const char *name;
 } header_parts[] = {
     {SNAP_AT_MODE, SNAP_AT_MODE, "attachment"},
-    {SNAP_AT_OUT_FFFD, SNAP_AT_OUT_FFFD, "upper four bits of the last OUT to FFFD"},
     {SNAP_AT_LOW_COUNTER, SNAP_AT_HIGH_COUNTER, "clock"},
     {SNAP_AT_SETTINGS, SNAP_AT_SETTINGS, "settings"},
     {SNAP_AT_INTERFACE_1_ROM, SNAP_AT_INTERFACE_1_ROM, "byte 36"},
     {SNAP_AT_EMULATION, SNAP_AT_EMULATION, "byte 37"},
     {SNAP_AT_MGT_ROM, SNAP_AT_MGT_ROM, "byte 59"},
     {SNAP_AT_ROM_LOW, SNAP_AT_INHIBIT_FLAG, "bytes 61 to 85"},
+    {SNAP_AT_OUT_FFFD, SNAP_AT_OUT_FFFD, "upper four bits of the last OUT to FFFD"},
 };
 
 void tell_lost(const char *file, const struct snapshot *opened, const struct snapshot *kept)
