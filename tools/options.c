@@ -7,6 +7,7 @@
 
 /* getopt's numbers for options lie above every letter. */
 #define ABOVE_LETTERS 256
+#define FORM_COLUMNS 80u
 
 /* An option as it is written; the output's short form is the one that is shown. */
 static const char *flag_of(enum option_number option)
@@ -128,22 +129,26 @@ enum status take_options(const struct command *command, int argc, char **argv, s
     return take_names(command, argv + optind, words);
 }
 
-static void print_option(FILE *to, enum option_number option)
+/* An option with its value as the forms have them. */
+static void option_text(enum option_number option, char text[FORM_COLUMNS])
 {
     const char *value = option_table[option].value;
-    fprintf(to, "%s%s%s", flag_of(option), value != NULL ? " " : "", value != NULL ? value : "");
+    snprintf(text, FORM_COLUMNS, "%s%s%s", flag_of(option), value != NULL ? " " : "", value != NULL ? value : "");
 }
 
+/* What does not fit into a line goes on in the next. */
 void print_form(FILE *to, const struct command *command)
 {
-    fprintf(to, "snapshot %s", command->name);
+    size_t column = (size_t)fprintf(to, "snapshot %s", command->name);
     for (unsigned at = 0; at < 2 && command->names[at] != NULL; at++)
-        fprintf(to, " %s", command->names[at]);
+        column += (size_t)fprintf(to, " %s", command->names[at]);
     for (unsigned at = 0; command->options[at] != NO_OPTION; at++) {
         bool needed = command->options[at] == OPTION_OUTPUT;
-        fputs(needed ? " " : " [", to);
-        print_option(to, command->options[at]);
-        fputs(needed ? "" : "]", to);
+        char text[FORM_COLUMNS];
+        option_text(command->options[at], text);
+        if (column + 3 + strlen(text) > FORM_COLUMNS)
+            column = (size_t)fprintf(to, "\n       ") - 1;
+        column += (size_t)fprintf(to, needed ? " %s" : " [%s]", text);
     }
     fprintf(to, "\n    %s\n", command->about);
 }
@@ -152,8 +157,8 @@ void print_help(FILE *to, const struct command *command)
 {
     print_form(to, command);
     for (unsigned at = 0; command->options[at] != NO_OPTION; at++) {
-        fputs("    ", to);
-        print_option(to, command->options[at]);
-        fprintf(to, "\n        %s\n", option_table[command->options[at]].about);
+        char text[FORM_COLUMNS];
+        option_text(command->options[at], text);
+        fprintf(to, "    %s\n        %s\n", text, option_table[command->options[at]].about);
     }
 }

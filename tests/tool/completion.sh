@@ -20,6 +20,8 @@ completed_words() {
     [ "$(offers snapshot screen a.z80 --sc)" = "--scale --scr" ]
     [ "$(offers snapshot screen a.z80 --page '')" = "5 7" ]
     [ "$(offers snapshot screen a.z80 --scale = '')" = "1 2 3 4 5 6 7 8" ]
+    [ "$(offers snapshot write a.z80 --format '')" = "scs z80" ]
+    [ "$(offers snapshot edit a.z80 --format = s)" = scs ]
     bash --norc -c '. tools/completion.bash && complete -p snapshot' | grep -qxF "complete -F _snapshot snapshot"
 }
 check "bash is offered the commands, and of each the options that its help has" completed_words

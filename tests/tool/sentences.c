@@ -6,7 +6,7 @@
 
 static int named(uint32_t number)
 {
-    return number <= 14 || (number >= 20 && number <= 32);
+    return number <= 14 || (number >= 20 && number <= 32) || (number >= 40 && number <= 43);
 }
 
 int main(void)

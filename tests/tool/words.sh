@@ -1,5 +1,8 @@
 # The words of the command line: help, and what is wrong called by its name.
 
+# form_of COMMAND HELP: the lines of its form, down to what it is about.
+form_of() { sed -n "/^snapshot $1 /,/^    [^ ]/p" "$2"; }
+
 helps() {
     local command option
     run_tool 0 --help
@@ -14,8 +17,9 @@ helps() {
         cp "$work/out" "$work/one"
         head -n 1 "$work/one" | grep -qE "^snapshot $command FILE"
         # the form is the one of the whole help, and each option of the form is explained
-        grep -qxF -- "$(head -n 1 "$work/one")" "$work/help"
-        for option in $(head -n 1 "$work/one" | tr -d '[]' | tr ' ' '\n' | sed -n '/^-/p'); do
+        form_of "$command" "$work/one" >"$work/form"
+        form_of "$command" "$work/help" | diff "$work/form" -
+        for option in $(tr -d '[]' <"$work/form" | tr ' ' '\n' | sed -n '/^-/p'); do
             grep -qE -- "^    $option( |\$)" "$work/one"
         done
         run_tool 0 "$command" samples/museum-48k.z80 -h
@@ -52,6 +56,11 @@ info a.z80 --rom b.rom|'snapshot info' does not take '--rom'; 'snapshot view' do
 info a.z80 --rom|'snapshot info' does not take '--rom'; 'snapshot view' does
 info a.z80 -o b.z80|'snapshot info' does not take '-o'; 'snapshot edit' does
 write a.z80 -o b.z80 --json|'snapshot write' does not take '--json'; 'snapshot info' does
+info a.z80 --format scs|'snapshot info' does not take '--format'; 'snapshot edit' does
+write a.z80 -o b.z80 --format|'--format' needs a value: --format z80|scs
+write a.z80 -o b.z80 --format sna|'--format' takes z80|scs, not 'sna'
+write a.z80 -o b.z80 --format=|'--format' takes z80|scs, not ''
+edit a.z80 -o b.z80 --format SCS|'--format' takes z80|scs, not 'SCS'
 view a.z80 5 --rom|'--rom' needs a value: --rom ROM
 write a.z80 -o|'-o' needs a value: -o OUT
 write a.z80 --output|'-o' needs a value: -o OUT

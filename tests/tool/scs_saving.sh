@@ -1,0 +1,173 @@
+# SCS files that are written and edited: what they hold, what is lost, what they replace.
+
+# everything that SCS does not hold: settings, attachment, bytes 36 and 37, the OUT to FFFD, the clock, bytes 59 and 61 to 85
+rich() { patched "$1" "$2" 29 "$3" 34 "$4" 36 FF 37 03 "${@:5}" 55 0100 59 FF 61 0011 73 41 85 22; }
+
+written_scs() {
+    local model size
+    rich "$work/rich48.z80" tests/files/48k-text.z80 FE 03
+    rich "$work/rich128.z80" tests/files/128k-text.z80 6D 05 35 13 38 F5 39 0102030405060708090A0B0C0D0E0F10
+    for model in 48 128; do
+        size=$((model * 1024 + 88))
+        run_tool 0 write "$work/rich$model.z80" -o "$work/rich$model.scs" --format scs
+        [ "$(stat -c %s "$work/rich$model.scs")" -eq "$size" ]
+        [ "$(head -c 20 "$work/rich$model.scs" | xxd -p)" = "$(printf 'SamSnap!ASCD\0\x62' | xxd -p)0$((model / 128 + 1))03$(le32 $((model * 1024)) | xxd -p)" ]
+        [ "$(tail -c 5 "$work/rich$model.scs" | xxd -p)" = 0000000000 ]
+        # the blocks' heads, and the CPU block's clock numbers
+        [ "$(tail -c 68 "$work/rich$model.scs" | head -c 5 | xxd -p)" = 0122000000 ]
+        [ "$(tail -c 35 "$work/rich$model.scs" | head -c 11 | xxd -p)" = 0000000000000213000000 ]
+        # what is read back loses nothing more
+        run_tool 0 write "$work/rich$model.scs" -o "$work/twice.scs" --format scs
+        [ ! -s "$work/err" ]
+        cmp "$work/rich$model.scs" "$work/twice.scs"
+        rm "$work/twice.scs"
+    done
+}
+check "write --format scs writes the one SCS file, and loses nothing twice" written_scs
+
+# what_stays FILE: what info --json says of a machine but the file, and what SCS does not hold.
+what_stays() {
+    run_tool 0 info --json "$1"
+    jq 'del(.file, .format, .version, .length, .unwrapped, .attachment, .clock.position, .settings, .emulation)
+        | if .ports then .ports.FFFD %= 16 else . end' "$work/out"
+}
+kept_and_lost() {
+    local model page
+    for model in 48 128; do
+        what_stays "$work/rich$model.z80" >"$work/before"
+        what_stays "$work/rich$model.scs" | diff "$work/before" -
+        [ "$(jq '.registers | length' "$work/before")" -eq 14 ]
+        run_tool 0 info --json "$work/rich$model.scs"
+        [ "$(jq -c '[.attachment, .clock.position, .settings[]]' "$work/out")" = '["none",0,false,false,"normal","Cursor"]' ]
+        [ "$(jq -c '[.emulation.byte_36, .emulation.byte_37, (.emulation.bytes_59_61_85 | add, .[1], .[2])]' "$work/out")" = '[0,0,510,255,255]' ]
+    done
+    [ "$(jq -c '.ports | [."7FFD", .FFFD, .sound[15]]' "$work/out")" = '[19,5,16]' ]
+    run_tool 0 info --json "$work/rich128.z80"
+    [ "$(jq -c '[.ports.FFFD, .attachment, .settings.joystick]' "$work/out")" = '[245,"Interface I","Kempston"]' ]
+    for page in {0..7}; do
+        "$tool" view "$work/rich128.z80" "$page" --raw | cmp - <("$tool" view "$work/rich128.scs" "$page" --raw)
+    done
+}
+check "registers, ports and memory come back from an SCS file, and the rest is as in the manual" kept_and_lost
+
+# loses NAMES FILE: the one line that is said when it is written as SCS, also where it is edited; none otherwise.
+loses() {
+    local line="snapshot: $2: an SCS file does not hold all of it; lost: $1"
+    run_tool 0 write "$2" -o - --format scs
+    [ "$(cat "$work/err")" = "${1:+$line}" ]
+    lines 'list'
+    run_tool 0 edit "$2" -o "$work/never.scs" --format scs --script "$work/script"
+    [ "$(cat "$work/err")" = "${1:+$line}" ]
+    run_tool 0 write "$2" -o - --format z80
+    [ ! -s "$work/err" ]
+}
+losses() {
+    local others='settings, byte 36, byte 37, byte 59, bytes 61 to 85'
+    loses "attachment, clock, $others" "$work/rich48.z80"
+    loses "attachment, clock, $others, upper four bits of the last OUT to FFFD" "$work/rich128.z80"
+    loses '' "$work/48.scs"
+    loses '' "$work/from128.z80"
+    # one by one, from a machine that loses nothing
+    local names change
+    while IFS='|' read -r names change; do
+        patched "$work/one.z80" "$work/from128.z80" $change
+        loses "$names" "$work/one.z80"
+    done <<'CHANGES'
+attachment|34 06
+clock|57 02
+clock|55 00
+settings|29 06
+settings|29 82
+byte 36|36 01
+byte 37|37 01
+byte 59|59 01
+bytes 61 to 85|61 FE
+bytes 61 to 85|85 01
+upper four bits of the last OUT to FFFD|38 17
+|38 08
+|35 01
+|39 77
+|12 0C
+CHANGES
+}
+check "what is lost is told in one line, each part by its name, and nothing else is" losses
+
+scs_replaces() {
+    rm -rf "$work/kinds"
+    mkdir "$work/kinds"
+    local z80=$work/kinds/a.z80 scs=$work/kinds/a.scs file
+    cp "$work/48.scs" "$scs"
+    cp "$work/48.scs.gz" "$scs.gz"
+    cp samples/museum-48k.z80 "$z80"
+    gzip -kc "$z80" >"$z80.gz"
+    echo "notes of a curator" >"$work/kinds/notes"
+    lines 'byte 8000 01' 'save'
+    for file in "$scs" "$scs.gz"; do
+        keeps 3 "$file" "is there and is an SCS file; '--format scs' saves one" write "$z80" -o "$file"
+        keeps 3 "$file" "is there and is an SCS file; '--format scs' saves one" edit "$file" -o "$file" --script "$work/script"
+        [ ! -s "$work/out" ]
+    done
+    for file in "$z80" "$z80.gz"; do
+        keeps 3 "$file" "is there and is a .Z80 file; only --force" write "$scs" -o "$file" --format scs
+        keeps 3 "$file" "is there and is a .Z80 file; only --force" edit "$file" -o "$file" --format scs --script "$work/script"
+    done
+    for file in z80 scs; do
+        keeps 3 "$work/kinds/notes" "is there and is no snapshot" write "$scs" -o "$work/kinds/notes" --format "$file"
+    done
+    # its own format it replaces, wrapped or not; by --force anything
+    for file in "$scs" "$scs.gz"; do run_tool 0 write "$work/128.scs" -o "$file" --format scs; done
+    cmp "$scs" "$scs.gz"
+    for file in "$z80" "$z80.gz"; do run_tool 0 write "$scs" -o "$file"; done
+    cmp "$z80" "$z80.gz"
+    run_tool 0 write "$scs" -o "$z80" --format scs --force
+    cmp "$scs" "$z80"
+    run_tool 0 write "$scs" -o "$z80" --force
+    cmp "$z80" "$work/from128.z80"
+}
+check "of the two formats neither replaces the other but by --force" scs_replaces
+
+edited_scs() {
+    local model ending file=$work/edited.scs place
+    for model in 48 128; do
+        for ending in scs scs.gz; do
+            rm -f "$file" "$file.snaplog"
+            run_tool 0 write "$work/$model.$ending" -o "$work/plain.scs" --format scs --force
+            lines 'byte 8000 5A' 'pair HL BEEF' 'save'
+            run_tool 0 edit "$work/$model.$ending" -o "$file" --format scs --script "$work/script"
+            [ ! -s "$work/err" ]
+            [ "$(cmp -l "$file" "$work/plain.scs" | wc -l)" -eq 3 ]
+            # the byte is in page 2, of a 48K the second in the file; HL stands high byte first, 6 bytes into the CPU block
+            place=$((model == 48 ? 16384 : 32768))
+            [ "$(xxd -s $((20 + place)) -l 1 -p "$file") $(xxd -s $((25 + model * 1024 + 6)) -l 2 -p "$file")" = "5a beef" ]
+            # another day, by the log beside it
+            lines 'list' 'undo' 'save' 'undo' 'save'
+            run_tool 0 edit "$file" -o "$file" --format scs --script "$work/script"
+            [ ! -s "$work/err" ]
+            grep -qxF 'standing: 2, waiting: 0' "$work/out"
+            cmp "$file" "$work/plain.scs"
+        done
+    done
+}
+check "an SCS file is edited, undone on another day and is as it was, byte for byte" edited_scs
+
+# the log belongs to what the SCS file gives back, not to the machine that it was made of
+edited_into_scs() {
+    local file=$work/into.scs
+    rm -f "$file"*
+    lines 'out 04' 'byte C000 5A' 'save'
+    run_tool 0 edit "$work/rich128.z80" -o "$file" --format scs --script "$work/script"
+    lines 'undo 2' 'save'
+    run_tool 0 edit "$file" -o "$file" --format scs --script "$work/script"
+    [ ! -s "$work/err" ]
+    cmp "$file" "$work/rich128.scs"
+    # and the other way, into a .Z80 file
+    lines 'redo 2' "save $work/out-of.z80"
+    rm -f "$work/out-of.z80"*
+    run_tool 0 edit "$file" -o "$work/out-of.z80" --script "$work/script"
+    [ "$(page_byte "$work/out-of.z80" 4 0000)" = 5A ]
+    lines 'undo 2' 'save'
+    run_tool 0 edit "$work/out-of.z80" -o "$work/out-of.z80" --script "$work/script"
+    run_tool 0 write "$work/rich128.scs" -o -
+    cmp "$work/out" "$work/out-of.z80"
+}
+check "a log goes on through a file of the other format" edited_into_scs
