@@ -133,7 +133,7 @@ scs_commands() {
 }
 check "view, find, screen and write of an SCS file, from standard input too, are those of the .Z80 file" scs_commands
 
-# refuses_scs NUMBER SENTENCE: standard input is a file that is refused so, with this hint or none, in gzip too.
+# refuses_scs NUMBER SENTENCE: standard input is a file that is refused so, with this hint or none, in gzip and by every command.
 refuses_scs() {
     local file words
     cat >"$work/bad.scs"
@@ -143,9 +143,9 @@ refuses_scs() {
         [ "$(cat "$work/err")" = "snapshot: $file: refused, $1: $2" ]
         run_tool 1 info --json "$file"
         [ "$(jq -r '"\(.refused): \(.sentence)\(if .hint then " (\(.hint))" else "" end)"' "$work/out")" = "$1: $2" ]
-        for words in "view $file 5" "find $file the" "screen $file $work/never.png" "write $file -o $work/never.z80" "edit $file -o $work/never.z80"; do
-            refuses "$1" "$file" $words
-        done
+    done
+    for words in "view $file 5" "find $file the" "screen $file $work/never.png" "write $file -o $work/never.z80" "edit $file -o $work/never.z80"; do
+        refuses "$1" "$file" $words
     done
     [ ! -e "$work/never.png" ]
     [ ! -e "$work/never.z80" ]
