@@ -1,17 +1,21 @@
 /* opening.c: the bytes of a file taken as a snapshot: a .Z80 or SCS file, or one of them in gzip. */
 #include "tool.h"
 
+#define SCS_LONG "longer than 5,242,880 bytes, the most that is read of an SCS file"
+#define Z80_LONG "longer than any file of its kind"
+#define UNWRAPPED "unwrapped, it is "
+
 /* What is wrong with a length, or NULL. */
-static const char *too_long(const uint8_t *bytes, size_t length)
+static const char *too_long(const uint8_t *bytes, size_t length, bool unwrapped)
 {
     if (is_scs(bytes, length))
-        return length > INPUT_MOST ? "longer than 5,242,880 bytes, the most that is read of an SCS file" : NULL;
-    return length > SNAP_READ_MOST ? "longer than any file of its kind" : NULL;
+        return length <= INPUT_MOST ? NULL : unwrapped ? UNWRAPPED SCS_LONG : SCS_LONG;
+    return length <= SNAP_READ_MOST ? NULL : unwrapped ? UNWRAPPED Z80_LONG : Z80_LONG;
 }
 
 static struct taking take_plain(const uint8_t *bytes, size_t length, struct snapshot *opened)
 {
-    struct taking taken = {.fault = too_long(bytes, length), .bytes = bytes, .length = length};
+    struct taking taken = {.fault = too_long(bytes, length, opened->unwrapped != 0), .bytes = bytes, .length = length};
     bool scs = is_scs(bytes, length);
     opened->kind = scs ? SCS_FILE : Z80_FILE;
     opened->version = scs ? 0 : version_of(bytes, length);
@@ -27,16 +31,6 @@ bool is_accepted(const struct taking *taken)
     return taken->fault == NULL && taken->number == SNAP_ACCEPTED;
 }
 
-/* The same of what was unwrapped. */
-static struct taking take_inside(const uint8_t *inside, size_t length, struct snapshot *opened)
-{
-    struct taking taken = take_plain(inside, length, opened);
-    if (taken.fault != NULL)
-        taken.fault = is_scs(inside, length) ? "unwrapped, it is longer than 5,242,880 bytes, the most that is read of an SCS file"
-                                             : "unwrapped, it is longer than any file of its kind";
-    return taken;
-}
-
 struct taking take_snapshot(const uint8_t *file, size_t length, struct snapshot *opened)
 {
     static uint8_t inside[INPUT_MOST + 1];
@@ -46,11 +40,11 @@ struct taking take_snapshot(const uint8_t *file, size_t length, struct snapshot 
         return take_plain(file, length, opened);
     struct taking taken = {.fault = unwrap(file, length, inside, sizeof inside, &opened->unwrapped)};
     if (taken.fault == NULL)
-        taken = take_inside(inside, opened->unwrapped, opened);
+        taken = take_plain(inside, opened->unwrapped, opened);
     if (taken.fault == NULL)
         return taken;
     /* registers may look like a wrapper: what is no whole one may be a .Z80 file */
-    struct taking plain = take_plain(file, length, opened);
     opened->unwrapped = 0;
+    struct taking plain = take_plain(file, length, opened);
     return is_accepted(&plain) ? plain : taken;
 }

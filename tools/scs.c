@@ -81,7 +81,8 @@ void hint_for_scs(uint32_t number, const uint8_t *file, size_t length, char hint
         snprintf(hint, HINT_SIZE, "block %u%s, at byte %u", file[at], block_name(file[at]), (unsigned)at);
         break;
     case SNAP_SCS_BLOCK_MISSING:
-        snprintf(hint, HINT_SIZE, "there is %s", there[SCS_CPU] ? "no Ports block" : there[SCS_PORTS] ? "no CPU block" : "neither");
+        snprintf(hint, HINT_SIZE, "there is %s",
+                 there[SCS_CPU] ? "no Ports block" : there[SCS_PORTS] ? "no CPU block" : "neither");
         break;
     default: hint[0] = 0;
     }

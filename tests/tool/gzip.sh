@@ -78,11 +78,12 @@ followed_wrappers() {
 check "what follows a wrapper is told, but for zeros and a second part" followed_wrappers
 
 wrapped_z80() {
-    local file count=0
+    local file size count=0
     for file in samples/museum-48k.z80 tests/files/128k-noise.z80; do
         gzip -c "$file" >"$work/wrapped.z80.gz"
         run_tool 0 info "$file"
-        sed -E "1s|$file|$work/wrapped.z80.gz|; 2s/version 3, ([0-9]+) bytes/version 3 in gzip, $(stat -c %s "$work/wrapped.z80.gz") bytes, \1 unwrapped/" "$work/out" >"$work/expected"
+        size=$(stat -c %s "$work/wrapped.z80.gz")
+        sed -E "1s|$file|$work/wrapped.z80.gz|; 2s/3, ([0-9]+) bytes/3 in gzip, $size bytes, \1 unwrapped/" "$work/out" >"$work/expected"
         run_tool 0 info "$work/wrapped.z80.gz"
         diff "$work/expected" "$work/out"
         count=$((count + 1))
