@@ -99,13 +99,18 @@ wrapped_z80() {
 }
 check "a .Z80 file in gzip is read as one, and what is neither is refused as it is" wrapped_z80
 
-# A 1F, F 8B and BC as gzip's method and flags
+# A 1F, F 8B and BC as gzip's method and flags; the second also unpacks to a byte before it goes wrong
 like_wrapper() {
-    patched "$work/like.z80" samples/museum-48k.z80 0 1F8B0800
-    run_tool 0 info "$work/like.z80"
-    [ "$(sed -n 2p "$work/out")" = "Format     version 3, 3621 bytes" ]
-    grep -qF 'AF  1F8B   BC  0008' "$work/out"
-    run_tool 0 write "$work/like.z80" -o "$work/like.z80"
+    local more
+    for more in '' '10 000100FEFF41 16 07'; do
+        patched "$work/like.z80" samples/museum-48k.z80 0 1F8B0800 $more
+        run_tool 0 info "$work/like.z80"
+        [ "$(sed -n 2p "$work/out")" = "Format     version 3, 3621 bytes" ]
+        grep -qF 'AF  1F8B   BC  0008' "$work/out"
+        run_tool 0 write "$work/like.z80" -o "$work/like.z80"
+    done
+    head -c 3000 "$work/like.z80" >"$work/cut.z80"
+    unwraps_not "its gzip wrapper is damaged" "$work/cut.z80"
     gzip -c "$work/like.z80" >"$work/like.z80.gz"
     run_tool 0 info "$work/like.z80.gz"
     grep -qF 'AF  1F8B   BC  0008' "$work/out"

@@ -70,8 +70,8 @@ losses() {
     # one by one, from a machine that loses nothing
     local names change
     while IFS='|' read -r names change; do
-        patched "$work/one.z80" "$work/from128.z80" $change
-        loses "$names" "$work/one.z80"
+        patched "$work/changed.z80" "$work/from128.z80" $change
+        loses "$names" "$work/changed.z80"
     done <<'CHANGES'
 attachment|34 06
 clock|57 02
