@@ -106,7 +106,8 @@ static enum status run_edit(const struct words *words)
     if (is_stream(file) || is_stream(output) || (log != NULL && is_stream(log)))
         return misused("'snapshot edit' takes files, not '-'; a file of that name is './-'");
     return edit(&(struct edit_words){.file = file, .output = output, .script = words->options[OPTION_SCRIPT],
-                                     .log = log, .kind = kind, .force = words->options[OPTION_FORCE] != NULL,
+                                     .log = log, .kind = kind, .format_asked = words->options[OPTION_FORMAT] != NULL,
+                                     .force = words->options[OPTION_FORCE] != NULL,
                                      .new_log = words->options[OPTION_NEW_LOG] != NULL});
 }
 

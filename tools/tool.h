@@ -195,7 +195,7 @@ void print_step(FILE *to, const struct log *log, uint64_t step, bool back);
 struct edit_words {
     const char *file, *output, *script, *log;
     enum file_kind kind;
-    bool force, new_log;
+    bool format_asked, force, new_log;
 };
 struct editing {
     struct snapshot opened;

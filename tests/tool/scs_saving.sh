@@ -161,9 +161,12 @@ edited_into_scs() {
     [ ! -s "$work/err" ]
     cmp "$file" "$work/rich128.scs"
     # and the other way, into a .Z80 file
-    lines 'redo 2' "save $work/out-of.z80"
+    lines 'redo 2' 'save'
     rm -f "$work/out-of.z80"*
+    run_tool 0 edit "$file" -o "$work/out-of.z80" --format z80 --script "$work/script"
+    [ ! -s "$work/err" ]
     run_tool 0 edit "$file" -o "$work/out-of.z80" --script "$work/script"
+    [ "$(cat "$work/err")" = "snapshot: $file: is an SCS file; it is saved as a .Z80 file, and '--format scs' keeps it one" ]
     [ "$(page_byte "$work/out-of.z80" 4 0000)" = 5A ]
     lines 'undo 2' 'save'
     run_tool 0 edit "$work/out-of.z80" -o "$work/out-of.z80" --script "$work/script"
