@@ -18,7 +18,7 @@ static struct taking take_plain(const uint8_t *bytes, size_t length, struct snap
     struct taking taken = {.fault = too_long(bytes, length, opened->unwrapped != 0), .bytes = bytes, .length = length};
     bool scs = is_scs(bytes, length);
     opened->kind = scs ? SCS_FILE : Z80_FILE;
-    opened->version = scs ? 0 : version_of(bytes, length);
+    opened->version = version_of(bytes, length);
     opened->says_16k = !scs && says_16k(bytes, length);
     if (taken.fault == NULL)
         taken.number = (scs ? snap_scs_read : snap_z80_read)(bytes, length, opened->area, sizeof opened->area, opened->header,
