@@ -4,7 +4,7 @@ use Rattle.claim.proofs.Claim.{claim, start-after}
 use Rattle.claim.proofs.Still.{still}
 use Rattle.claim.proofs.Never.{never-28-29}
 use Rattle.claim.proofs.Order.{first-to-last}
-use Rattle.claim.proofs.Opens.{open-start}
+use Rattle.claim.proofs.Opens.{open-start, scs-open-start}
 use Rattle.claim.proofs.RefutedClaims.{refuted-refuses, refuted-alters-nothing, refuted-undoes-once, refuted-counts, refuted-redo}
 
 pub theorems : Theorems
@@ -15,6 +15,7 @@ theorems =
       still = still;
       start-after = start-after;
       open-start = open-start;
+      scs-open-start = scs-open-start;
       never-28-29 = never-28-29;
       refuted-refuses = refuted-refuses;
       refuted-alters-nothing = refuted-alters-nothing;

@@ -11,7 +11,7 @@ use Rattle.z80file.specs.Clean.{ReadGives}
 use Rattle.session.specs.Session.{Session, started}
 use Rattle.corrections.specs.Corrections.{Correction, make}
 use Rattle.five_calls.specs.declared.Call.{Call}
-use Rattle.journal.specs.Journal.{journalCall, openOf}
+use Rattle.journal.specs.Journal.{journalCall, openOf, scsOpenOf}
 use Rattle.claim.specs.History.{made}
 use Rattle.claim.specs.Claim.{ValidStart, TypedCalls, runAfter, runAnswers, ClaimOf}
 use Rattle.claim.specs.WrongCalls.{alwaysRefuses, altersNothing, undoesOnce, inventsCounts, redoesNothing}
@@ -39,6 +39,9 @@ pub record Theorems : Type 0 where
   -- "An accepted read of a Spectrum file gives a valid machine .. so an opened file is a start": a valid machine, a clean memory of 131,072 bytes
   pub open-start : (file : List ℕ) (n size : ℕ) → openOf file n size .answer ≡ Accepted
       → ReadGives (openOf file n size .session .state .machine) (openOf file n size .session .state .memory) n
+  -- and so is an opened SCS file
+  pub scs-open-start : (file : List ℕ) (n size : ℕ) → scsOpenOf file n size .answer ≡ Accepted
+      → ReadGives (scsOpenOf file n size .session .state .machine) (scsOpenOf file n size .session .state .memory) n
   -- "28 and 29 never come in such a run"
   pub never-28-29 : (start : State) (log : List ℕ) → ValidStart start → (calls : List Call) → TypedCalls calls
       → NoneIs28Or29 (runAnswers journalCall (started start log) calls)

@@ -2,30 +2,30 @@
 use Prim.Native.Nat.{ℕ}
 use mathlib.Core.Path.{_≡_, sym, ap, _∙_}
 use mathlib.Core.List.{List}
-use Rattle.file_bytes.specs.Files.{ReadBytes, WriteBytes, readOfBytes, writeOfBytes, ReadsBytes, WritesBytes}
+use Rattle.file_bytes.specs.Files.{ReadBytes, WriteBytes, ReadsBytes, WritesBytes}
 use Rattle.files_twice.specs.FilesTwice.{ReadsTwo, WritesTwo}
 
-pub reads-two : (file : List ℕ) (n k n′ k′ r r′ : ℕ) (area head area′ head′ : List ℕ) → ReadsBytes (readOfBytes file n k) r area head
-    → ReadsBytes (readOfBytes file n′ k′) r′ area′ head′ → ReadsTwo file n k n′ k′ (record { one = r; other = r′ }) area head area′ head′
-reads-two file n k n′ k′ r r′ area head area′ head′ p q =
+pub reads-two : (read : ℕ → ℕ → ReadBytes) (n k n′ k′ r r′ : ℕ) (area head area′ head′ : List ℕ) → ReadsBytes (read n k) r area head
+    → ReadsBytes (read n′ k′) r′ area′ head′ → ReadsTwo read n k n′ k′ (record { one = r; other = r′ }) area head area′ head′
+reads-two read n k n′ k′ r r′ area head area′ head′ p q =
     record {
       first = p;
       second = q;
       alike = λ e f.
-          let s : readOfBytes file n k ≡ readOfBytes file n′ k′ = λ i. readOfBytes file (e i) (f i) in (
+          let s : read n k ≡ read n′ k′ = λ i. read (e i) (f i) in (
             p .answer ∙ ap (λ (x : ReadBytes). x .answer) s ∙ sym (q .answer),
             (p .area ∙ ap (λ (x : ReadBytes). x .area) s ∙ sym (q .area), p .header ∙ ap (λ (x : ReadBytes). x .header) s ∙ sym (q .header)),
           );
     }
 
-pub writes-two : (head area : List ℕ) (n n′ r r′ size size′ : ℕ) (out out′ : List ℕ) → WritesBytes (writeOfBytes head area n) r size out
-    → WritesBytes (writeOfBytes head area n′) r′ size′ out′ → WritesTwo head area n n′ (record { one = r; other = r′ }) out size out′ size′
-writes-two head area n n′ r r′ size size′ out out′ p q =
+pub writes-two : (write : ℕ → WriteBytes) (n n′ r r′ size size′ : ℕ) (out out′ : List ℕ) → WritesBytes (write n) r size out
+    → WritesBytes (write n′) r′ size′ out′ → WritesTwo write n n′ (record { one = r; other = r′ }) out size out′ size′
+writes-two write n n′ r r′ size size′ out out′ p q =
     record {
       first = p;
       second = q;
       alike = λ e.
-          let s : writeOfBytes head area n ≡ writeOfBytes head area n′ = ap (writeOfBytes head area) e in (
+          let s : write n ≡ write n′ = ap write e in (
             p .answer ∙ ap (λ (x : WriteBytes). x .answer) s ∙ sym (q .answer),
             (p .size ∙ ap (λ (x : WriteBytes). x .size) s ∙ sym (q .size), p .out ∙ ap (λ (x : WriteBytes). x .out) s ∙ sym (q .out)),
           );

@@ -3,18 +3,18 @@
 use Prim.Native.Nat.{ℕ}
 use mathlib.Core.Path.{_≡_}
 use mathlib.Core.List.{List}
-use Rattle.file_bytes.specs.Files.{readOfBytes, writeOfBytes, ReadsBytes, WritesBytes}
+use Rattle.file_bytes.specs.Files.{ReadBytes, WriteBytes, ReadsBytes, WritesBytes}
 use Rattle.numbers.specs.declared.TwoNumbers.{TwoNumbers}
 
--- The promise of `read_two`, into areas of n and n′ bytes and headers of k and k′: each read is what reading comes to; into buffers of the
--- same lengths both end alike.
-pub record ReadsTwo (file : List ℕ) (n k n′ k′ : ℕ) (r : TwoNumbers) (area head area′ head′ : List ℕ) : Type 0 where
-  pub first : ReadsBytes (readOfBytes file n k) (r .one) area head
-  pub second : ReadsBytes (readOfBytes file n′ k′) (r .other) area′ head′
+-- The promise of a way to read that is called twice, into areas of n and n′ bytes and headers of k and k′: each read is what it comes to;
+-- into buffers of the same lengths both end alike.
+pub record ReadsTwo (read : ℕ → ℕ → ReadBytes) (n k n′ k′ : ℕ) (r : TwoNumbers) (area head area′ head′ : List ℕ) : Type 0 where
+  pub first : ReadsBytes (read n k) (r .one) area head
+  pub second : ReadsBytes (read n′ k′) (r .other) area′ head′
   pub alike : n ≡ n′ → k ≡ k′ → (r .one ≡ r .other) × ((area ≡ area′) × (head ≡ head′))
 
--- the promise of `write_two`, into outputs of n and n′ bytes
-pub record WritesTwo (head area : List ℕ) (n n′ : ℕ) (r : TwoNumbers) (out : List ℕ) (size : ℕ) (out′ : List ℕ) (size′ : ℕ) : Type 0 where
-  pub first : WritesBytes (writeOfBytes head area n) (r .one) size out
-  pub second : WritesBytes (writeOfBytes head area n′) (r .other) size′ out′
+-- the promise of a way to write that is called twice, into outputs of n and n′ bytes
+pub record WritesTwo (write : ℕ → WriteBytes) (n n′ : ℕ) (r : TwoNumbers) (out : List ℕ) (size : ℕ) (out′ : List ℕ) (size′ : ℕ) : Type 0 where
+  pub first : WritesBytes (write n) (r .one) size out
+  pub second : WritesBytes (write n′) (r .other) size′ out′
   pub alike : n ≡ n′ → (r .one ≡ r .other) × ((size ≡ size′) × (out ≡ out′))

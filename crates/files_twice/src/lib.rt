@@ -1,6 +1,7 @@
 // Demand 1 of the functions that a C program calls: each call made twice on buffers that differ only in what is to be overwritten.
 use numbers::TwoNumbers;
 ghost use lib.ListN.{length};
+ghost use Rattle.file_bytes.specs.Files.{readOfBytes, writeOfBytes};
 ghost use Rattle.files_twice.specs.FilesTwice.{ReadsTwo, WritesTwo};
 
 // One file read into two areas and two headers.
@@ -11,7 +12,7 @@ pub fn read_two(
     area2: &mut [u8],
     head2: &mut [u8],
 ) -> TwoNumbers
-    ensures { λ r. ⌜ ReadsTwo (now (file .entry)) (length (now (area .entry))) (length (now (head .entry))) (length (now (area2 .entry))) (length (now (head2 .entry))) r (now (area .exit)) (now (head .exit)) (now (area2 .exit)) (now (head2 .exit)) ⌝ }
+    ensures { λ r. ⌜ ReadsTwo (readOfBytes (now (file .entry))) (length (now (area .entry))) (length (now (head .entry))) (length (now (area2 .entry))) (length (now (head2 .entry))) r (now (area .exit)) (now (head .exit)) (now (area2 .exit)) (now (head2 .exit)) ⌝ }
 {
     let read = snapshot::snap_z80_read(file, area, head);
     let again = snapshot::snap_z80_read(file, area2, head2);
@@ -30,7 +31,7 @@ pub fn write_two(
     out2: &mut [u8],
     size2: &mut u64,
 ) -> TwoNumbers
-    ensures { λ r. ⌜ WritesTwo (now (head .entry)) (now (area .entry)) (length (now (out .entry))) (length (now (out2 .entry))) r (now (out .exit)) (now (size .exit)) (now (out2 .exit)) (now (size2 .exit)) ⌝ }
+    ensures { λ r. ⌜ WritesTwo (writeOfBytes (now (head .entry)) (now (area .entry))) (length (now (out .entry))) (length (now (out2 .entry))) r (now (out .exit)) (now (size .exit)) (now (out2 .exit)) (now (size2 .exit)) ⌝ }
 {
     let first = snapshot::snap_z80_write(head, area, out, size);
     let second = snapshot::snap_z80_write(head, area, out2, size2);

@@ -16,7 +16,8 @@ use Rattle.numbers.specs.declared.Answer.the-variants.{Accepted, Refused}
 use Rattle.spectrum.specs.Valid.{validOf}
 use Rattle.numbers.proofs.Numbers.{refuse-not}
 use Rattle.z80read.specs.declared.Opened.{Opened}
-use Rattle.z80read.specs.Read.{readOf, Reads}
+use Rattle.z80read.specs.Read.{ReadResult, readOf, Reads}
+use Rattle.scs_read.specs.ScsReads.{scsReadOf}
 use Rattle.session.specs.declared.Counts.{Counts}
 use Rattle.session.specs.declared.Done.{Done}
 use Rattle.log_steps.specs.Steps.{capacity}
@@ -25,7 +26,7 @@ use Rattle.log_steps.specs.Inner.{Ready}
 use Rattle.session.proofs.Given.{refusedDone}
 use Rattle.five_calls.specs.declared.Call.{Call}
 use Rattle.five_calls.specs.FiveCalls.{called}
-use Rattle.journal.specs.Journal.{soundness, journalCall, startCounts, openOf}
+use Rattle.journal.specs.Journal.{soundness, journalCall, startCounts, openedAs, openOf, scsOpenOf}
 
 -- 20, 21, 29
 module _ (m : Machine) (area cap standing total : ℕ) (t : Bool) (et : t ≡ validOf m) where
@@ -72,11 +73,21 @@ module _ (m : Machine) (mem log : List ℕ) (n : Counts) (cap : ℕ) (f : Answer
   is-sound c x h q = q ∙ sym (ap (λ (a : Answer). ifAccepted a (sessionOn m mem log n) (called c (sessionOn m mem log n))) (soundness-is ∙ h))
 
 -- a file opened
-pub opened-is : (s : List ℕ) (n size : ℕ) (o : Opened) (counts : Counts) (area log : List ℕ) → Reads (readOf s n) o area → (counts ≡ startCounts) × (log ≡ replicate size 0)
-    → resultOf (record { answer = o .answer; machine = o .machine; counts = counts }) area log ≡ openOf s n size
-unfolding openOf
-opened-is s n size o counts area log p q =
+opened-as : (x : ReadResult) (size : ℕ) (o : Opened) (counts : Counts) (area log : List ℕ) → Reads x o area → (counts ≡ startCounts) × (log ≡ replicate size 0)
+    → resultOf (record { answer = o .answer; machine = o .machine; counts = counts }) area log ≡ openedAs x size
+opened-as x size o counts area log p q =
     rw (q .0, q .1) (λ k. record {
       answer = p .leaves .answer k;
       session = record { state = record { machine = p .leaves .machine k; memory = p .leaves .memory k }; log = replicate size 0; standing = 0; total = 0 };
     })
+
+module _ (s : List ℕ) (n size : ℕ) (o : Opened) (counts : Counts) (area log : List ℕ) where
+  pub opened-is : Reads (readOf s n) o area → (counts ≡ startCounts) × (log ≡ replicate size 0)
+      → resultOf (record { answer = o .answer; machine = o .machine; counts = counts }) area log ≡ openOf s n size
+  unfolding openOf
+  opened-is p q = opened-as (readOf s n) size o counts area log p q
+
+  pub scs-opened-is : Reads (scsReadOf s n) o area → (counts ≡ startCounts) × (log ≡ replicate size 0)
+      → resultOf (record { answer = o .answer; machine = o .machine; counts = counts }) area log ≡ scsOpenOf s n size
+  unfolding scsOpenOf
+  scs-opened-is p q = opened-as (scsReadOf s n) size o counts area log p q

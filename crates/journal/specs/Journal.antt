@@ -13,6 +13,7 @@ use Rattle.spectrum.specs.State.{State}
 use Rattle.numbers.specs.Numbers.{refuse}
 use Rattle.spectrum.specs.Valid.{validOf}
 use Rattle.z80read.specs.Read.{ReadResult, readOf}
+use Rattle.scs_read.specs.ScsReads.{scsReadOf}
 use Rattle.session.specs.declared.Counts.{Counts}
 use Rattle.log_steps.specs.Steps.{capacity}
 use Rattle.session.specs.Session.{Session, CallResult, started, ifAccepted}
@@ -40,6 +41,13 @@ startCounts = record { standing = 0; total = 0 }
 abbrev pub startOf : ReadResult → State
 startOf o = record { machine = o .machine; memory = o .memory }
 
--- a file opened for correction, into an area of n bytes and a log of so many: it is read, and a log is started whether or not it is accepted
+-- a file opened for correction: what its reading came to, and a log of so many bytes, started whether or not it is accepted
+abbrev pub openedAs : ReadResult → ℕ → CallResult
+openedAs o size = record { answer = o .answer; session = started (startOf o) (replicate size 0) }
+
+-- a .Z80 file, and an SCS file, opened into an area of n bytes and a log of so many
 unfoldable pub openOf : List ℕ → ℕ → ℕ → CallResult
-openOf file n size = record { answer = readOf file n .answer; session = started (startOf (readOf file n)) (replicate size 0) }
+openOf file n size = openedAs (readOf file n) size
+
+unfoldable pub scsOpenOf : List ℕ → ℕ → ℕ → CallResult
+scsOpenOf file n size = openedAs (scsReadOf file n) size

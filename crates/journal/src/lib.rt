@@ -9,7 +9,7 @@ use spectrum::Machine;
 ghost use mathlib.Core.Path.{_≡_};
 ghost use lib.ListN.{length, replicate};
 ghost use Rattle.session.specs.Session.{sessionOn, resultOf};
-ghost use Rattle.journal.specs.Journal.{soundness, journalCall, startCounts, openOf};
+ghost use Rattle.journal.specs.Journal.{soundness, journalCall, startCounts, openOf, scsOpenOf};
 
 // A log just started: every byte zero, no correction.
 pub fn start(log: &mut [u8]) -> Counts
@@ -33,6 +33,20 @@ pub fn open(file: &[u8], area: &mut [u8], log: &mut [u8]) -> Done
     Done {
         answer: answer,
         machine: machine,
+        counts: start(log),
+    }
+}
+
+// An SCS file opened for correction, in the same way.
+pub fn open_scs(file: &[u8], area: &mut [u8], log: &mut [u8]) -> Done
+    ensures { λ r. ⌜ resultOf r (now (area .exit)) (now (log .exit)) ≡ scsOpenOf (now (file .entry)) (length (now (area .entry))) (length (now (log .entry))) ⌝ }
+{
+    let read = scs_read::read(file, area);
+    let said = read.answer;
+    let saved = read.machine;
+    Done {
+        answer: said,
+        machine: saved,
         counts: start(log),
     }
 }

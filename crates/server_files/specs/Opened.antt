@@ -3,15 +3,14 @@ use Prim.Native.Nat.{ℕ}
 use mathlib.Core.Path.{_≡_}
 use mathlib.Core.List.{List}
 use lib.ListN.{length}
-use Rattle.z80read.specs.Read.{readOf}
-use Rattle.journal.specs.Journal.{startOf}
-use Rattle.file_bytes.specs.Files.{readOfBytes}
+use Rattle.spectrum.specs.State.{State}
+use Rattle.file_bytes.specs.Files.{ReadBytes}
 use Rattle.journal_bytes.specs.Calls.{Buffers}
 use Rattle.server.specs.Server.{startedBuffers, RanBytes, HistoryRun}
 
--- The promise of `serve_file`, with an area of n bytes and a header of k: the number of the read, and every call on what it left; where that
--- number is 0, all is the paper bench's from the machine and memory that the file gives.
-pub record ServesFile (file : List ℕ) (n k : ℕ) (log encoded : List ℕ) (room r : ℕ) (x : Buffers) (numbers : List ℕ) : Type 0 where
-  pub answer : r ≡ readOfBytes file n k .answer
-  pub ran : RanBytes encoded room (startedBuffers (readOfBytes file n k .header) (readOfBytes file n k .area) (length log)) x numbers
-  pub claim : r ≡ 0 → HistoryRun (startOf (readOf file n)) (length log) encoded room x numbers
+-- The promise of `serve_file` and `serve_scs`, where b is what the read leaves and w the machine and memory that the file gives: the number of
+-- the read, and every call on what it left; where that number is 0, all is the paper bench's from that machine and memory.
+pub record ServesFile (b : ReadBytes) (w : State) (log encoded : List ℕ) (room r : ℕ) (x : Buffers) (numbers : List ℕ) : Type 0 where
+  pub answer : r ≡ b .answer
+  pub ran : RanBytes encoded room (startedBuffers (b .header) (b .area) (length log)) x numbers
+  pub claim : r ≡ 0 → HistoryRun w (length log) encoded room x numbers

@@ -1,5 +1,10 @@
 // Demand 3 of the functions that a C program calls, from a file that was opened.
 ghost use lib.ListN.{length};
+ghost use Rattle.z80read.specs.Read.{readOf};
+ghost use Rattle.scs_read.specs.ScsReads.{scsReadOf};
+ghost use Rattle.journal.specs.Journal.{startOf};
+ghost use Rattle.file_bytes.specs.Files.{readOfBytes};
+ghost use Rattle.scs_bytes.specs.ScsBytes.{scsReadOfBytes};
 ghost use Rattle.journal_bytes.specs.Calls.{buffersOut};
 ghost use Rattle.server_files.specs.Opened.{ServesFile};
 
@@ -15,9 +20,27 @@ pub fn serve_file(
     calls: &[u8],
     numbers: &mut [u8],
 ) -> u32
-    ensures { λ r. ⌜ ServesFile (now (file .entry)) (length (now (area .entry))) (length (now (head .entry))) (now (log .entry)) (now (calls .entry)) (length (now (numbers .entry))) r (buffersOut head area log standing total) (now (numbers .exit)) ⌝ }
+    ensures { λ r. ⌜ ServesFile (readOfBytes (now (file .entry)) (length (now (area .entry))) (length (now (head .entry)))) (startOf (readOf (now (file .entry)) (length (now (area .entry))))) (now (log .entry)) (now (calls .entry)) (length (now (numbers .entry))) r (buffersOut head area log standing total) (now (numbers .exit)) ⌝ }
 {
     let answer = snapshot::snap_z80_read(file, area, head);
     server::serve(head, area, log, standing, total, calls, numbers);
     answer
+}
+
+// The same from an SCS file.
+pub fn serve_scs(
+    file: &[u8],
+    head: &mut [u8],
+    area: &mut [u8],
+    log: &mut [u8],
+    standing: &mut u64,
+    total: &mut u64,
+    calls: &[u8],
+    answers: &mut [u8],
+) -> u32
+    ensures { λ r. ⌜ ServesFile (scsReadOfBytes (now (file .entry)) (length (now (area .entry))) (length (now (head .entry)))) (startOf (scsReadOf (now (file .entry)) (length (now (area .entry))))) (now (log .entry)) (now (calls .entry)) (length (now (answers .entry))) r (buffersOut head area log standing total) (now (answers .exit)) ⌝ }
+{
+    let read = snapshot::snap_scs_read(file, area, head);
+    server::serve(head, area, log, standing, total, calls, answers);
+    read
 }
