@@ -105,16 +105,16 @@ scs-read-typed s n h a =
     let b : (k : ℕ) (p : ScsPart) → Bytes (filled k (dataOf s p)) = λ k p. filled-bytes k (dataOf s p) (data-bytes s p h) in
     subst (λ (o : ReadResult). Typed (o .machine)) (sym (t .is)) (scs-typed (t .model) _ _ (b 34 (t .cpu)) (b 19 (t .ports)) (filled-long 19 (dataOf s (t .ports))))
 
+-- SCS keeps all of a machine that it gave
+pub scs-kept-all : (s : List ℕ) (n : ℕ) → scsReadOf s n .answer ≡ Accepted → scsKeeps (scsReadOf s n .machine) ≡ scsReadOf s n .machine
+scs-kept-all s n a =
+    let t = taken s n a in
+    ap (λ (x : ReadResult). scsKeeps (x .machine)) (t .is) ∙ keeps-read (t .model) _ _ ∙ sym (ap (λ (x : ReadResult). x .machine) (t .is))
+
 pub scs-again : (s : List ℕ) (n : ℕ) → ((i : ℕ) → getD s i 0 < 256) → scsReadOf s n .answer ≡ Accepted
     → scsReadOf (scsFileOf (scsReadOf s n .machine) (scsReadOf s n .memory)) 131072 ≡ scsReadOf s n
 scs-again s n h a =
     let o = scsReadOf s n in
-    let t = taken s n a in
     let g = scs-start s n a in
-    let k : scsKeeps (o .machine) ≡ o .machine =
-    ap (λ (x : ReadResult). scsKeeps (x .machine)) (t .is) ∙ keeps-read (t .model) _ _ ∙ sym (ap (λ (x : ReadResult). x .machine) (t .is)) in
     scs-file-back (o .machine) (o .memory) (scs-read-typed s n h a) (g .valid) (g .clean)
-    ∙ (λ i. record { answer = a′ i; machine = k i; memory = o .memory })
-  where
-    a′ : Accepted ≡ scsReadOf s n .answer
-    a′ = sym a
+    ∙ (λ i. record { answer = sym a i; machine = scs-kept-all s n a i; memory = o .memory })
