@@ -8,15 +8,15 @@ use lib.ListN.{length, getD, take, drop, replicate, length-append, length-take, 
 use lib.Seq.{getD-take, getD-drop, getD-append-add, take-all, ext-getD}
 use lib.Dec.{ltb}
 use borrow.Author.Tests.{ltb-true, ltb-false}
-use Rattle.scs_blocks.specs.ScsBlocks.{filled}
+use Rattle.scs_blocks.specs.ScsBlocks.{zeroFilled}
 
-pub filled-long : (n : ℕ) (xs : List ℕ) → length (filled n xs) ≡ n
-unfolding filled
+pub filled-long : (n : ℕ) (xs : List ℕ) → length (zeroFilled n xs) ≡ n
+unfolding zeroFilled
 filled-long n xs = simp (length-append, length-take, length-replicate) (omega arith)
 
 -- what is missing reads as zero, as it does in the data themselves
-pub filled-at : (n : ℕ) (xs : List ℕ) (i : ℕ) → i < n → getD (filled n xs) i 0 ≡ getD xs i 0
-unfolding filled
+pub filled-at : (n : ℕ) (xs : List ℕ) (i : ℕ) → i < n → getD (zeroFilled n xs) i 0 ≡ getD xs i 0
+unfolding zeroFilled
 filled-at n xs i h = go (ltb i (length xs)) refl
   where
     l : length (take n xs) ≡ length xs → length xs ≤ i → getD (take n xs ++ replicate (n - length xs) 0) i 0 ≡ getD xs i 0
@@ -34,20 +34,20 @@ filled-at n xs i h = go (ltb i (length xs)) refl
     go false e = let k = ltb-false i (length xs) e in l (simp length-take (omega arith)) k
 
 -- data that are as long as is due are taken as they are
-pub filled-whole : (n : ℕ) (xs : List ℕ) → length xs ≡ n → filled n xs ≡ xs
-unfolding filled
+pub filled-whole : (n : ℕ) (xs : List ℕ) → length xs ≡ n → zeroFilled n xs ≡ xs
+unfolding zeroFilled
 filled-whole n xs e =
     let z : n - length xs ≡ 0 = omega arith in
     rw z (append-nil (take n xs) ∙ take-all n xs (omega arith))
 
 -- a part of them is due of the data from there on
-pub filled-part : (m n k : ℕ) (xs : List ℕ) → k + n ≤ m → take n (drop k (filled m xs)) ≡ filled n (drop k xs)
+pub filled-part : (m n k : ℕ) (xs : List ℕ) → k + n ≤ m → take n (drop k (zeroFilled m xs)) ≡ zeroFilled n (drop k xs)
 filled-part m n k xs h =
-    let l : length (take n (drop k (filled m xs))) ≡ n = simp (length-take, length-drop, filled-long m xs) (omega arith) in
+    let l : length (take n (drop k (zeroFilled m xs))) ≡ n = simp (length-take, length-drop, filled-long m xs) (omega arith) in
     ext-getD 0 _ _ (l ∙ sym (filled-long n (drop k xs)))
     (λ i q.
-    getD-take n (drop k (filled m xs)) i 0 (omega arith)
-    ∙ getD-drop k (filled m xs) i 0
+    getD-take n (drop k (zeroFilled m xs)) i 0 (omega arith)
+    ∙ getD-drop k (zeroFilled m xs) i 0
     ∙ filled-at m xs (k + i) (omega arith)
     ∙ sym (getD-drop k xs i 0)
     ∙ sym (filled-at n (drop k xs) i (omega arith)))

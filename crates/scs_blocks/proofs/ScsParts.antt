@@ -11,7 +11,7 @@ use borrow.Author.Tests.{ne-eqb, ltb-true, ltb-false}
 use Rattle.scs_blocks.specs.declared.ScsPart.{ScsPart}
 use Rattle.scs_blocks.specs.declared.ScsPart.the-variants.{Absent}
 use Rattle.scs_blocks.specs.declared.ScsSeen.{ScsSeen}
-use Rattle.scs_blocks.specs.ScsBlocks.{partOf, noted, filled}
+use Rattle.scs_blocks.specs.ScsBlocks.{partOf, noted, zeroFilled}
 
 module _ (seen : ScsSeen) (n : ℕ) where
   pub part-1 : n ≡ 1 → seen .cpu ≡ partOf seen n
@@ -23,8 +23,8 @@ module _ (seen : ScsSeen) (n : ℕ) where
   pub part-3 : n ≡ 3 → seen .memory ≡ partOf seen n
   part-3 e = rw e
 
-  pub part-none : (n ≡ 1 → ⊥) → (n ≡ 2 → ⊥) → (n ≡ 3 → ⊥) → Absent ≡ partOf seen n
-  part-none a b c = rw (ne-eqb n 1 a, ne-eqb n 2 b, ne-eqb n 3 c)
+  pub no-part : (n ≡ 1 → ⊥) → (n ≡ 2 → ⊥) → (n ≡ 3 → ⊥) → Absent ≡ partOf seen n
+  no-part a b c = rw (ne-eqb n 1 a, ne-eqb n 2 b, ne-eqb n 3 c)
 
   module _ (p : ScsPart) where
     pub note-1 : n ≡ 1 → record { cpu = p; ports = seen .ports; memory = seen .memory } ≡ noted seen n p
@@ -60,8 +60,8 @@ module _ (src dst : List ℕ) (n : ℕ) (e : n ≡ min (length src) (length dst)
           ap (λ (j : ℕ). take j src) k
 
   pub filled-is : (copied cleared : List ℕ) → copied ≡ take (length taken) taken ++ drop (length taken) dst
-      → cleared ≡ take n copied ++ replicate (length copied - n) 0 → cleared ≡ filled (length dst) src
-  unfolding filled
+      → cleared ≡ take n copied ++ replicate (length copied - n) 0 → cleared ≡ zeroFilled (length dst) src
+  unfolding zeroFilled
   filled-is copied cleared p q =
       let z : n - 0 ≡ n = omega arith in
       let c : copied ≡ taken ++ drop n dst = p ∙ ap (λ (k : ℕ). take k taken ++ drop k dst) taken-long ∙ ap (λ (l : List ℕ). l ++ drop n dst) (take-all n taken (omega (arith, taken-long))) in

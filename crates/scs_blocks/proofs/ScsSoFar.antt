@@ -49,36 +49,36 @@ module _ (file : List ℕ) (all : ScsFound) (seen : ScsSeen) (place : ℕ) (g : 
   found-all h = sym (no-turn file (g .turns) place seen h) ∙ g .same
 
   module _ (h : place < length file) where
-    ahead : (t : ℕ) × ((length file - place ≤ suc t) × (blockFrom file t place seen ≡ all))
-    ahead = go (g .turns) (g .enough) (g .same)
+    block-to-come : (t : ℕ) × ((length file - place ≤ suc t) × (blockFrom file t place seen ≡ all))
+    block-to-come = go (g .turns) (g .enough) (g .same)
       where
         go : (t : ℕ) → length file - place ≤ t → blocksFrom file t place seen ≡ all → (t : ℕ) × ((length file - place ≤ suc t) × (blockFrom file t place seen ≡ all))
         go zero e q = absurd (omega arith)
         go (suc t) e q = (t, (e, sym (one-turn file t place seen h) ∙ q))
 
     pub found-end : at file place ≡ 0 → Blocks seen ≡ all
-    found-end e = rw (eq-eqb (at file place) 0 e) at (ahead .1 .1)
+    found-end e = rw (eq-eqb (at file place) 0 e) at (block-to-come .1 .1)
 
     module _ (n : at file place ≡ 0 → ⊥) where
       pub cut-head : length file - place < 5 → Bad BlockCut ≡ all
-      cut-head l = rw (ne-eqb (at file place) 0 n, lt-ltb (length file) (place + 5) (omega arith)) at (ahead .1 .1)
+      cut-head l = rw (ne-eqb (at file place) 0 n, lt-ltb (length file) (place + 5) (omega arith)) at (block-to-come .1 .1)
 
       module _ (l : 5 ≤ length file - place) (size : ℕ) (e : size ≡ sizeAt file (place + 1)) where
         pub cut-data : length file - place - 5 < size → Bad BlockCut ≡ all
         cut-data k =
-            rw (ne-eqb (at file place) 0 n, le-ltb (length file) (place + 5) (omega arith), ← e, lt-ltb (length file) (place + 5 + size) (omega arith)) at (ahead .1 .1)
+            rw (ne-eqb (at file place) 0 n, le-ltb (length file) (place + 5) (omega arith), ← e, lt-ltb (length file) (place + 5 + size) (omega arith)) at (block-to-come .1 .1)
 
         module _ (k : size ≤ length file - place - 5) (part : ScsPart) (p : part ≡ partOf seen (at file place)) (there : Bool) (t : there ≡ isThere part) where
           pub seen-twice : there ≡ true → Bad ScsBlockTwice ≡ all
           seen-twice q =
-              rw (ne-eqb (at file place) 0 n, le-ltb (length file) (place + 5) (omega arith), ← e, le-ltb (length file) (place + 5 + size) (omega arith), ← p, ← t, q) at (ahead .1 .1)
+              rw (ne-eqb (at file place) 0 n, le-ltb (length file) (place + 5) (omega arith), ← e, le-ltb (length file) (place + 5 + size) (omega arith), ← p, ← t, q) at (block-to-come .1 .1)
 
           pub scs-more : (next : ScsSeen) → there ≡ false → next ≡ noted seen (at file place) (Stands (place + 5) size) → ScsSoFar file all next (place + 5 + size)
           scs-more next q d =
               record {
-                turns = ahead .0;
-                enough = omega (arith, ahead .1 .0);
+                turns = block-to-come .0;
+                enough = omega (arith, block-to-come .1 .0);
                 same =
                     rw d
-                    (rw (ne-eqb (at file place) 0 n, le-ltb (length file) (place + 5) (omega arith), ← e, le-ltb (length file) (place + 5 + size) (omega arith), ← p, ← t, q) at (ahead .1 .1));
+                    (rw (ne-eqb (at file place) 0 n, le-ltb (length file) (place + 5) (omega arith), ← e, le-ltb (length file) (place + 5 + size) (omega arith), ← p, ← t, q) at (block-to-come .1 .1));
               }

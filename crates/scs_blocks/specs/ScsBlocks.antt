@@ -39,8 +39,8 @@ abbrev pub nothingSeen : ScsSeen
 nothingSeen = record { cpu = Absent; ports = Absent; memory = Absent }
 
 -- whether all three were seen
-abbrev pub allSeen : ScsSeen → Bool
-allSeen seen = both (isThere (seen .cpu)) (both (isThere (seen .ports)) (isThere (seen .memory)))
+abbrev pub threeSeen : ScsSeen → Bool
+threeSeen seen = both (isThere (seen .cpu)) (both (isThere (seen .ports)) (isThere (seen .memory)))
 
 -- Block after block from a place on: "a clean stop without it is accepted"; "A byte 0 at a block's start ends the file, what follows unread";
 -- "8 if cut", its head or its data; "42 a second block 1, 2 or 3". A block has five bytes or more, so as many turns as bytes are enough.
@@ -63,6 +63,6 @@ abbrev pub dataOf : List ℕ → ScsPart → List ℕ
 dataOf s Absent = []
 dataOf s (Stands from size) = take size (drop from s)
 
--- "Short blocks are filled with zeros, the rest of long ones is skipped": the n bytes that are due
-unfoldable pub filled : ℕ → List ℕ → List ℕ
-filled n xs = take n xs ++ replicate (n - length xs) 0
+-- "Short blocks are zeroFilled with zeros, the rest of long ones is skipped": the n bytes that are due
+unfoldable pub zeroFilled : ℕ → List ℕ → List ℕ
+zeroFilled n xs = take n xs ++ replicate (n - length xs) 0

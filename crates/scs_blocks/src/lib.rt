@@ -4,7 +4,7 @@ ghost use Prim.Native.Nat.{_+_, _≤_};
 ghost use mathlib.Core.Path.{_≡_};
 ghost use lib.ListN.{length};
 ghost use Rattle.scs_blocks.specs.declared.ScsPart.the-variants.{Stands};
-ghost use Rattle.scs_blocks.specs.ScsBlocks.{sizeAt, isThere, partOf, noted, scsBlocks, filled};
+ghost use Rattle.scs_blocks.specs.ScsBlocks.{sizeAt, isThere, partOf, noted, scsBlocks, zeroFilled};
 
 // Where the data of a block stand.
 pub enum ScsPart {
@@ -118,7 +118,7 @@ fn note(seen: ScsSeen, number: u8, from: usize, size: usize) -> ScsSeen
 
 // The bytes that are due of a block's data: what is missing is zero, what is too much is left out.
 pub fn fill_from(src: &[u8], dst: &mut [u8])
-    ensures { λ _. ⌜ now (dst .exit) ≡ filled (length (now (dst .entry))) (now (src .entry)) ⌝ }
+    ensures { λ _. ⌜ now (dst .exit) ≡ zeroFilled (length (now (dst .entry))) (now (src .entry)) ⌝ }
 {
     let n = slices::least(src.len(), dst.len());
     bytes::copy(&src[0..n], dst);

@@ -19,12 +19,12 @@ use Rattle.body_v1.specs.Body.{spread}
 use Rattle.z80file.specs.Clean.{Clean}
 use Rattle.z80file.proofs.CleanAreas.{clean-spread}
 use Rattle.z80file.proofs.PagesOfArea.{page-at, put-long, put-here, put-elsewhere, blank-at, blank-long}
-use Rattle.scs_blocks.specs.ScsBlocks.{filled}
+use Rattle.scs_blocks.specs.ScsBlocks.{zeroFilled}
 use Rattle.scs_blocks.proofs.ScsFilled.{filled-long, filled-whole}
 use Rattle.scs_memory.specs.ScsMemory.{memorySize, scsMemory, scsData}
 use Rattle.scs_memory.proofs.ScsLengths.{data-long}
 
--- a 128K machine owns every page
+-- a 128K machine owns every ramPage
 clean-128 : (area : List ℕ) → length area ≡ 131072 → Clean K128 area
 clean-128 area l =
     record {
@@ -35,64 +35,64 @@ clean-128 area l =
           absurd (omega arith);
     }
 
-pub clean-memory : (model : Model) (xs : List ℕ) → Clean model (scsMemory model xs)
+pub clean-scs-memory : (model : Model) (xs : List ℕ) → Clean model (scsMemory model xs)
 unfolding scsMemory
-clean-memory K48 xs = clean-spread (filled 49152 xs) (filled-long 49152 xs)
-clean-memory K128 xs = clean-128 (filled 131072 xs) (filled-long 131072 xs)
+clean-scs-memory K48 xs = clean-spread (zeroFilled 49152 xs) (filled-long 49152 xs)
+clean-scs-memory K128 xs = clean-128 (zeroFilled 131072 xs) (filled-long 131072 xs)
 
 -- the three pages of an area, put over zeros
 module _ (area : List ℕ) (s : Clean K48 area) where
-  abbrev page : ℕ → List ℕ
-  page p = pageIn area p
+  abbrev ramPage : ℕ → List ℕ
+  ramPage p = pageIn area p
 
-  long : (p : ℕ) → p < 8 → length (page p) ≡ 16384
+  long : (p : ℕ) → p < 8 → length (ramPage p) ≡ 16384
   long p h = page-long area p (s .long) h
 
-  abbrev first : List ℕ
-  first = put (blank 131072) 81920 (page 5)
+  abbrev over5 : List ℕ
+  over5 = put (blank 131072) 81920 (ramPage 5)
 
-  abbrev second : List ℕ
-  second = put first 32768 (page 2)
+  abbrev over52 : List ℕ
+  over52 = put over5 32768 (ramPage 2)
 
-  first-long : length first ≡ 131072
-  first-long = put-long (blank 131072) (page 5) 5 (blank-long 131072) (long 5 (omega arith)) (omega arith)
+  over5-long : length over5 ≡ 131072
+  over5-long = put-long (blank 131072) (ramPage 5) 5 (blank-long 131072) (long 5 (omega arith)) (omega arith)
 
-  second-long : length second ≡ 131072
-  second-long = put-long first (page 2) 2 first-long (long 2 (omega arith)) (omega arith)
+  over52-long : length over52 ≡ 131072
+  over52-long = put-long over5 (ramPage 2) 2 over5-long (long 2 (omega arith)) (omega arith)
 
-  third-long : length (put second 0 (page 0)) ≡ 131072
-  third-long = put-long second (page 0) 0 second-long (long 0 (omega arith)) (omega arith)
+  third-long : length (put over52 0 (ramPage 0)) ≡ 131072
+  third-long = put-long over52 (ramPage 0) 0 over52-long (long 0 (omega arith)) (omega arith)
 
-  byte-back : (i : ℕ) → i < 131072 → getD (put second 0 (page 0)) i 0 ≡ getD area i 0
+  byte-back : (i : ℕ) → i < 131072 → getD (put over52 0 (ramPage 0)) i 0 ≡ getD area i 0
   byte-back i h = go (eqb (i / 16384) 0) (eqb (i / 16384) 2) (eqb (i / 16384) 5) refl refl refl
     where
-      over0 : (i / 16384 ≡ 0 → ⊥) → getD (put second 0 (page 0)) i 0 ≡ getD second i 0
-      over0 n = put-elsewhere second (page 0) 0 second-long (long 0 (omega arith)) (omega arith) i n
+      over0 : (i / 16384 ≡ 0 → ⊥) → getD (put over52 0 (ramPage 0)) i 0 ≡ getD over52 i 0
+      over0 n = put-elsewhere over52 (ramPage 0) 0 over52-long (long 0 (omega arith)) (omega arith) i n
 
-      over2 : (i / 16384 ≡ 2 → ⊥) → getD second i 0 ≡ getD first i 0
-      over2 n = put-elsewhere first (page 2) 2 first-long (long 2 (omega arith)) (omega arith) i n
+      over2 : (i / 16384 ≡ 2 → ⊥) → getD over52 i 0 ≡ getD over5 i 0
+      over2 n = put-elsewhere over5 (ramPage 2) 2 over5-long (long 2 (omega arith)) (omega arith) i n
 
-      go : (a b c : Bool) → eqb (i / 16384) 0 ≡ a → eqb (i / 16384) 2 ≡ b → eqb (i / 16384) 5 ≡ c → getD (put second 0 (page 0)) i 0 ≡ getD area i 0
+      go : (a b c : Bool) → eqb (i / 16384) 0 ≡ a → eqb (i / 16384) 2 ≡ b → eqb (i / 16384) 5 ≡ c → getD (put over52 0 (ramPage 0)) i 0 ≡ getD area i 0
       go true b c ea eb ec =
           let q = eqb-true (i / 16384) 0 ea in
-          put-here second (page 0) 0 second-long (long 0 (omega arith)) (omega arith) i q ∙ page-at area 0 i q
+          put-here over52 (ramPage 0) 0 over52-long (long 0 (omega arith)) (omega arith) i q ∙ page-at area 0 i q
       go false true c ea eb ec =
           let q = eqb-true (i / 16384) 2 eb in
-          over0 (eqb-false _ _ ea) ∙ put-here first (page 2) 2 first-long (long 2 (omega arith)) (omega arith) i q ∙ page-at area 2 i q
+          over0 (eqb-false _ _ ea) ∙ put-here over5 (ramPage 2) 2 over5-long (long 2 (omega arith)) (omega arith) i q ∙ page-at area 2 i q
       go false false true ea eb ec =
           let q = eqb-true (i / 16384) 5 ec in
           over0 (eqb-false _ _ ea) ∙ over2 (eqb-false _ _ eb)
-          ∙ put-here (blank 131072) (page 5) 5 (blank-long 131072) (long 5 (omega arith)) (omega arith) i q ∙ page-at area 5 i q
+          ∙ put-here (blank 131072) (ramPage 5) 5 (blank-long 131072) (long 5 (omega arith)) (omega arith) i q ∙ page-at area 5 i q
       go false false false ea eb ec =
           let n0 = eqb-false (i / 16384) 0 ea in
           let n2 = eqb-false (i / 16384) 2 eb in
           let n5 = eqb-false (i / 16384) 5 ec in
           let o : owned K48 (i / 16384) ≡ false = rw (ne-eqb 2 (i / 16384) (λ e. n2 (sym e)), ne-eqb 0 (i / 16384) (λ e. n0 (sym e)), ne-eqb 5 (i / 16384) (λ e. n5 (sym e))) in
-          over0 n0 ∙ over2 n2 ∙ put-elsewhere (blank 131072) (page 5) 5 (blank-long 131072) (long 5 (omega arith)) (omega arith) i n5
+          over0 n0 ∙ over2 n2 ∙ put-elsewhere (blank 131072) (ramPage 5) 5 (blank-long 131072) (long 5 (omega arith)) (omega arith) i n5
           ∙ blank-at 131072 i h ∙ sym (s .clear i h o)
 
-  pages-back : put second 0 (page 0) ≡ area
-  pages-back = ext-getD 0 (put second 0 (page 0)) area (third-long ∙ sym (s .long)) (λ i h. byte-back i (omega (arith, third-long)))
+  pages-back : put over52 0 (ramPage 0) ≡ area
+  pages-back = ext-getD 0 (put over52 0 (ramPage 0)) area (third-long ∙ sym (s .long)) (λ i h. byte-back i (omega (arith, third-long)))
 
 -- the parts of three pages in a row
 three-parts : (p q r : List ℕ) → length p ≡ 16384 → length q ≡ 16384 → length r ≡ 16384

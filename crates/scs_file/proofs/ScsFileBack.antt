@@ -21,7 +21,7 @@ use Rattle.scs_blocks.specs.declared.ScsPart.the-variants.{Stands}
 use Rattle.scs_blocks.specs.declared.ScsSeen.{ScsSeen}
 use Rattle.scs_blocks.specs.declared.ScsFound.{ScsFound}
 use Rattle.scs_blocks.specs.declared.ScsFound.the-variants.{Blocks}
-use Rattle.scs_blocks.specs.ScsBlocks.{scsBlocks, filled}
+use Rattle.scs_blocks.specs.ScsBlocks.{scsBlocks, zeroFilled}
 use Rattle.scs_blocks.proofs.ScsSoFar.{scs-begin, found-end}
 use Rattle.scs_blocks.proofs.ScsFilled.{filled-whole}
 use Rattle.scs_machine.specs.ScsMachine.{scsMode, scsMachine}
@@ -42,10 +42,10 @@ use Rattle.scs_file.specs.ScsRoundTrip.{ScsBackOf}
 use Rattle.scs_file.proofs.ScsAreas.{memory-back}
 use Rattle.scs_file.proofs.ScsStepOver.{data-is, rest-is, step-over}
 
-head-back : (model : Model) (rest : List ℕ) → scsHeadOf (scsHeader model ++ (3 ∷ rest)) ≡ Spectrum model
+scs-head-back : (model : Model) (rest : List ℕ) → scsHeadOf (scsHeader model ++ (3 ∷ rest)) ≡ Spectrum model
 unfolding scsHeadOf
-head-back K48 rest = rw (le-ltb (length (scsHeader K48 ++ (3 ∷ rest))) 15 (omega arith))
-head-back K128 rest = rw (le-ltb (length (scsHeader K128 ++ (3 ∷ rest))) 15 (omega arith))
+scs-head-back K48 rest = rw (le-ltb (length (scsHeader K48 ++ (3 ∷ rest))) 15 (omega arith))
+scs-head-back K128 rest = rw (le-ltb (length (scsHeader K128 ++ (3 ∷ rest))) 15 (omega arith))
 
 module _ (m : Machine) (area : List ℕ) (t : Typed m) (l : length area ≡ 131072) where
   abbrev file : List ℕ
@@ -83,59 +83,59 @@ module _ (m : Machine) (area : List ℕ) (t : Typed m) (l : length area ≡ 1310
   abbrev place₃ : ℕ
   place₃ = place₂ + 5 + length (scsPorts m)
 
-  at-end : drop place₃ file ≡ replicate 5 0
-  at-end = rest-is file place₂ 2 (scsPorts m) (replicate 5 0) at-ports
+  at-file-end : drop place₃ file ≡ replicate 5 0
+  at-file-end = rest-is file place₂ 2 (scsPorts m) (replicate 5 0) at-ports
 
-  abbrev seen : ScsSeen
-  seen = record { cpu = Stands (place₁ + 5) (length (scsCpu m)); ports = Stands (place₂ + 5) (length (scsPorts m)); memory = Stands (15 + 5) (length memory) }
+  abbrev writtenSeen : ScsSeen
+  writtenSeen = record { cpu = Stands (place₁ + 5) (length (scsCpu m)); ports = Stands (place₂ + 5) (length (scsPorts m)); memory = Stands (15 + 5) (length memory) }
 
-  blocks-back : Blocks seen ≡ scsBlocks file 15
-  blocks-back =
+  scs-blocks-back : Blocks writtenSeen ≡ scsBlocks file 15
+  scs-blocks-back =
       let all = scsBlocks file 15 in
       let g₁ = step-over file 15 3 memory behind-memory at-memory all _ (scs-begin file 15) memory-small (λ e. omega arith) refl in
       let g₂ = step-over file place₁ 1 (scsCpu m) behind-cpu at-cpu all _ g₁ (omega (arith, cpu-long m)) (λ e. omega arith) refl in
       let g₃ = step-over file place₂ 2 (scsPorts m) (replicate 5 0) at-ports all _ g₂ (omega (arith, ports-long m t)) (λ e. omega arith) refl in
-      let left : 5 ≡ length file - place₃ = sym (ap length at-end) ∙ length-drop place₃ file in
+      let left : 5 ≡ length file - place₃ = sym (ap length at-file-end) ∙ length-drop place₃ file in
       let z : place₃ + 0 ≡ place₃ = omega arith in
-      found-end file all seen place₃ g₃ (omega arith)
-      (ap (λ (k : ℕ). at file k) (sym z) ∙ sym (getD-drop place₃ file 0 0) ∙ ap (λ (x : List ℕ). getD x 0 0) at-end)
+      found-end file all writtenSeen place₃ g₃ (omega arith)
+      (ap (λ (k : ℕ). at file k) (sym z) ∙ sym (getD-drop place₃ file 0 0) ∙ ap (λ (x : List ℕ). getD x 0 0) at-file-end)
 
   -- the data of the three blocks
-  loaded-back : afterFound (Blocks seen) (m .model) file 131072 ≡ scsLoaded (m .model) (scsCpu m) (scsPorts m) memory 131072
+  loaded-back : afterFound (Blocks writtenSeen) (m .model) file 131072 ≡ scsLoaded (m .model) (scsCpu m) (scsPorts m) memory 131072
   loaded-back =
       λ i. scsLoaded (m .model) (data-is file place₁ 1 (scsCpu m) behind-cpu at-cpu i) (data-is file place₂ 2 (scsPorts m) (replicate 5 0) at-ports i)
       (data-is file 15 3 memory behind-memory at-memory i) 131072
 
-  whole-cpu : filled 34 (scsCpu m) ≡ scsCpu m
+  whole-cpu : zeroFilled 34 (scsCpu m) ≡ scsCpu m
   whole-cpu = filled-whole 34 (scsCpu m) (cpu-long m)
 
-  whole-ports : filled 19 (scsPorts m) ≡ scsPorts m
+  whole-ports : zeroFilled 19 (scsPorts m) ≡ scsPorts m
   whole-ports = filled-whole 19 (scsPorts m) (ports-long m t)
 
-  mode-is : scsMode (scsCpu m) ≡ m .switches .im % 4
+  scs-mode-is : scsMode (scsCpu m) ≡ m .switches .im % 4
   unfolding scsCpu
-  mode-is = refl
+  scs-mode-is = refl
 
   module _ (v : validOf m ≡ true) where
-    mode-good : scsMode (filled 34 (scsCpu m)) ≡ 3 → ⊥
+    mode-good : scsMode (zeroFilled 34 (scsCpu m)) ≡ 3 → ⊥
     mode-good e =
-        let q : m .switches .im % 4 ≡ 3 = sym (ap scsMode whole-cpu ∙ mode-is) ∙ e in
+        let q : m .switches .im % 4 ≡ 3 = sym (ap scsMode whole-cpu ∙ scs-mode-is) ∙ e in
         omega (arith, q, valid-says m (t .sound) v .im)
 
     accepted-back : scsLoaded (m .model) (scsCpu m) (scsPorts m) memory 131072 ≡ record { answer = Accepted; machine = scsKeeps m; memory = scsMemory (m .model) memory }
     accepted-back =
-        rw (ne-eqb (scsMode (filled 34 (scsCpu m))) 3 mode-good)
+        rw (ne-eqb (scsMode (zeroFilled 34 (scsCpu m))) 3 mode-good)
         (λ i. record { answer = Accepted; machine = ((λ j. scsMachine (m .model) (whole-cpu j) (whole-ports j)) ∙ machine-kept m t v) i; memory = scsMemory (m .model) memory })
 
     head-file : scsHeadOf file ≡ Spectrum (m .model)
     unfolding scsFileOf
-    head-file = head-back (m .model) _
+    head-file = scs-head-back (m .model) _
 
     read-back : scsReadOf file 131072 ≡ record { answer = Accepted; machine = scsKeeps m; memory = scsMemory (m .model) memory }
     unfolding scsReadOf
     read-back =
         ap (λ (x : ScsHead). afterScsHead x file 131072) head-file
-        ∙ ap (λ (x : ScsFound). afterFound x (m .model) file 131072) (sym blocks-back)
+        ∙ ap (λ (x : ScsFound). afterFound x (m .model) file 131072) (sym scs-blocks-back)
         ∙ loaded-back ∙ accepted-back
 
 pub scs-file-back : (m : Machine) (area : List ℕ) → Typed m → validOf m ≡ true → Clean (m .model) area

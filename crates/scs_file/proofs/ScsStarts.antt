@@ -21,7 +21,7 @@ use Rattle.scs_blocks.specs.declared.ScsPart.the-variants.{Absent, Stands}
 use Rattle.scs_blocks.specs.declared.ScsSeen.{ScsSeen}
 use Rattle.scs_blocks.specs.declared.ScsFound.{ScsFound}
 use Rattle.scs_blocks.specs.declared.ScsFound.the-variants.{Bad, Blocks}
-use Rattle.scs_blocks.specs.ScsBlocks.{allSeen, scsBlocks, dataOf, filled}
+use Rattle.scs_blocks.specs.ScsBlocks.{threeSeen, scsBlocks, dataOf, zeroFilled}
 use Rattle.scs_blocks.proofs.ScsFilled.{filled-long, filled-at}
 use Rattle.scs_machine.specs.ScsMachine.{scsMode, scsMachine}
 use Rattle.scs_machine.specs.ScsKeeps.{scsKeeps}
@@ -33,7 +33,7 @@ use Rattle.scs_read.specs.declared.ScsHead.the-variants.{Spectrum}
 use Rattle.scs_read.specs.ScsHeads.{scsHeadOf}
 use Rattle.scs_read.specs.ScsReads.{afterFound, afterScsHead, scsReadOf}
 use Rattle.scs_write.specs.ScsWritten.{scsFileOf}
-use Rattle.scs_file.proofs.ScsAreas.{clean-memory}
+use Rattle.scs_file.proofs.ScsAreas.{clean-scs-memory}
 use Rattle.scs_file.proofs.ScsFileBack.{scs-file-back}
 
 -- an accepted result: its three blocks, and what they give
@@ -43,8 +43,8 @@ record ScsTaken (s : List ℕ) (n : ℕ) (o : ReadResult) : Type 0 where
   ports : ScsPart
   memory : ScsPart
   whole : n ≡ 131072
-  mode : scsMode (filled 34 (dataOf s cpu)) ≡ 3 → ⊥
-  is : o ≡ record { answer = Accepted; machine = scsMachine model (filled 34 (dataOf s cpu)) (filled 19 (dataOf s ports)); memory = scsMemory model (dataOf s memory) }
+  mode : scsMode (zeroFilled 34 (dataOf s cpu)) ≡ 3 → ⊥
+  is : o ≡ record { answer = Accepted; machine = scsMachine model (zeroFilled 34 (dataOf s cpu)) (zeroFilled 19 (dataOf s ports)); memory = scsMemory model (dataOf s memory) }
 
 module _ (s : List ℕ) (n : ℕ) where
   abbrev IfTaken : ReadResult → Type 0
@@ -53,8 +53,8 @@ module _ (s : List ℕ) (n : ℕ) where
   found-taken : (model : Model) (f : ScsFound) → n ≡ 131072 → IfTaken (afterFound f model s n)
   found-taken model (Bad why) w a = absurd (refused-not why a)
   found-taken model (Blocks seen) w a =
-      either IfTaken (allSeen seen) _ _
-      (λ e. either IfTaken (eqb (scsMode (filled 34 (dataOf s (seen .cpu)))) 3) _ _ (λ q a. absurd (refused-not _ a))
+      either IfTaken (threeSeen seen) _ _
+      (λ e. either IfTaken (eqb (scsMode (zeroFilled 34 (dataOf s (seen .cpu)))) 3) _ _ (λ q a. absurd (refused-not _ a))
       (λ q a. record { model = model; cpu = seen .cpu; ports = seen .ports; memory = seen .memory; whole = w; mode = eqb-false _ _ q; is = refl }))
       (λ e a. absurd (refused-not _ a)) a
 
@@ -62,21 +62,21 @@ module _ (s : List ℕ) (n : ℕ) where
   head-taken (ScsHead.Bad why) w a = absurd (refused-not why a)
   head-taken (Spectrum model) w a = found-taken model (scsBlocks s 15) w a
 
-  taken : IfTaken (scsReadOf s n)
+  scs-taken : IfTaken (scsReadOf s n)
   unfolding scsReadOf
-  taken = either IfTaken (eqb n 131072) _ _ (λ e. head-taken (scsHeadOf s) (eqb-true _ _ e)) (λ e a. absurd (refused-not _ a))
+  scs-taken = either IfTaken (eqb n 131072) _ _ (λ e. head-taken (scsHeadOf s) (eqb-true _ _ e)) (λ e a. absurd (refused-not _ a))
 
 clean-is : (model : Model) (cpu ports xs : List ℕ) → Clean (scsMachine model cpu ports .model) (scsMemory model xs)
 unfolding scsMachine
-clean-is model cpu ports xs = clean-memory model xs
+clean-is model cpu ports xs = clean-scs-memory model xs
 
 pub scs-start : (s : List ℕ) (n : ℕ) → scsReadOf s n .answer ≡ Accepted → ReadGives (scsReadOf s n .machine) (scsReadOf s n .memory) n
 scs-start s n a =
-    let t = taken s n a in
+    let t = scs-taken s n a in
     subst (λ (o : ReadResult). ReadGives (o .machine) (o .memory) n) (sym (t .is))
     (record {
       whole-area = t .whole;
-      valid = scs-valid (t .model) (filled 34 (dataOf s (t .cpu))) (filled 19 (dataOf s (t .ports))) (t .mode);
+      valid = scs-valid (t .model) (zeroFilled 34 (dataOf s (t .cpu))) (zeroFilled 19 (dataOf s (t .ports))) (t .mode);
       clean = clean-is (t .model) _ _ (dataOf s (t .memory));
     })
 
@@ -84,12 +84,12 @@ scs-start s n a =
 abbrev Bytes : List ℕ → Type 0
 Bytes l = (i : ℕ) → getD l i 0 < 256
 
-filled-bytes : (n : ℕ) (l : List ℕ) → Bytes l → Bytes (filled n l)
+filled-bytes : (n : ℕ) (l : List ℕ) → Bytes l → Bytes (zeroFilled n l)
 filled-bytes n l h i = go (ltb i n) refl
   where
-    go : (b : Bool) → ltb i n ≡ b → getD (filled n l) i 0 < 256
+    go : (b : Bool) → ltb i n ≡ b → getD (zeroFilled n l) i 0 < 256
     go true e = rw (filled-at n l i (ltb-true i n e)) (h i)
-    go false e = let k = ltb-false i n e in rw (List·getD-eq-default (filled n l) 0 {n = i} (omega (arith, filled-long n l))) (omega arith)
+    go false e = let k = ltb-false i n e in rw (List·getD-eq-default (zeroFilled n l) 0 {n = i} (omega (arith, filled-long n l))) (omega arith)
 
 data-bytes : (s : List ℕ) (p : ScsPart) → Bytes s → Bytes (dataOf s p)
 data-bytes s Absent h i = omega arith
@@ -101,14 +101,14 @@ data-bytes s (Stands from size) h i = go (ltb i size) refl
 
 pub scs-read-typed : (s : List ℕ) (n : ℕ) → ((i : ℕ) → getD s i 0 < 256) → scsReadOf s n .answer ≡ Accepted → Typed (scsReadOf s n .machine)
 scs-read-typed s n h a =
-    let t = taken s n a in
-    let b : (k : ℕ) (p : ScsPart) → Bytes (filled k (dataOf s p)) = λ k p. filled-bytes k (dataOf s p) (data-bytes s p h) in
+    let t = scs-taken s n a in
+    let b : (k : ℕ) (p : ScsPart) → Bytes (zeroFilled k (dataOf s p)) = λ k p. filled-bytes k (dataOf s p) (data-bytes s p h) in
     subst (λ (o : ReadResult). Typed (o .machine)) (sym (t .is)) (scs-typed (t .model) _ _ (b 34 (t .cpu)) (b 19 (t .ports)) (filled-long 19 (dataOf s (t .ports))))
 
 -- SCS keeps all of a machine that it gave
 pub scs-kept-all : (s : List ℕ) (n : ℕ) → scsReadOf s n .answer ≡ Accepted → scsKeeps (scsReadOf s n .machine) ≡ scsReadOf s n .machine
 scs-kept-all s n a =
-    let t = taken s n a in
+    let t = scs-taken s n a in
     ap (λ (x : ReadResult). scsKeeps (x .machine)) (t .is) ∙ keeps-read (t .model) _ _ ∙ sym (ap (λ (x : ReadResult). x .machine) (t .is))
 
 pub scs-again : (s : List ℕ) (n : ℕ) → ((i : ℕ) → getD s i 0 < 256) → scsReadOf s n .answer ≡ Accepted

@@ -26,19 +26,19 @@ size-back n h =
 
 module _ (s : List ℕ) (place number : ℕ) (xs rest : List ℕ) (e : drop place s ≡ scsBlock number xs ++ rest) where
   -- a byte of the block's head
-  head-at : (j k : ℕ) → place + j ≡ k → at s k ≡ getD (scsBlock number xs ++ rest) j 0
-  head-at j k q = ap (λ (i : ℕ). at s i) (sym q) ∙ sym (getD-drop place s j 0) ∙ ap (λ (l : List ℕ). getD l j 0) e
+  block-byte : (j k : ℕ) → place + j ≡ k → at s k ≡ getD (scsBlock number xs ++ rest) j 0
+  block-byte j k q = ap (λ (i : ℕ). at s i) (sym q) ∙ sym (getD-drop place s j 0) ∙ ap (λ (l : List ℕ). getD l j 0) e
 
-  number-is : at s place ≡ number
-  number-is = head-at 0 place (omega arith)
+  block-number-is : at s place ≡ number
+  block-number-is = block-byte 0 place (omega arith)
 
   size-is : length xs < 4294967296 → length xs ≡ sizeAt s (place + 1)
   size-is h =
       sym (size-back (length xs) h)
-      ∙ sym (λ i. head-at 1 (place + 1) refl i + 256 * head-at 2 (place + 1 + 1) (omega arith) i + 65536 * head-at 3 (place + 1 + 2) (omega arith) i + 16777216 * head-at 4 (place + 1 + 3) (omega arith) i)
+      ∙ sym (λ i. block-byte 1 (place + 1) refl i + 256 * block-byte 2 (place + 1 + 1) (omega arith) i + 65536 * block-byte 3 (place + 1 + 2) (omega arith) i + 16777216 * block-byte 4 (place + 1 + 3) (omega arith) i)
 
-  room : 5 + length xs + length rest ≡ length s - place
-  room = sym (sym (length-drop place s) ∙ ap length e ∙ five) where
+  room-behind : 5 + length xs + length rest ≡ length s - place
+  room-behind = sym (sym (length-drop place s) ∙ ap length e ∙ five) where
     five : length (scsBlock number xs ++ rest) ≡ 5 + length xs + length rest
     five = omega (arith, length-append xs rest)
 
@@ -54,6 +54,6 @@ module _ (s : List ℕ) (place number : ℕ) (xs rest : List ℕ) (e : drop plac
   pub step-over : (all : ScsFound) (seen : ScsSeen) → ScsSoFar s all seen place → length xs < 4294967296 → (number ≡ 0 → ⊥) → isThere (partOf seen number) ≡ false
       → ScsSoFar s all (noted seen number (Stands (place + 5) (length xs))) (place + 5 + length xs)
   step-over all seen g h n t =
-      scs-more s all seen place g (omega (arith, room)) (λ z. n (sym number-is ∙ z)) (omega (arith, room)) (length xs) (size-is h) (omega (arith, room))
-      (partOf seen number) (ap (partOf seen) (sym number-is)) (isThere (partOf seen number)) refl _ t
-      (ap (λ (k : ℕ). noted seen k (Stands (place + 5) (length xs))) (sym number-is))
+      scs-more s all seen place g (omega (arith, room-behind)) (λ z. n (sym block-number-is ∙ z)) (omega (arith, room-behind)) (length xs) (size-is h) (omega (arith, room-behind))
+      (partOf seen number) (ap (partOf seen) (sym block-number-is)) (isThere (partOf seen number)) refl _ t
+      (ap (λ (k : ℕ). noted seen k (Stands (place + 5) (length xs))) (sym block-number-is))

@@ -24,12 +24,12 @@ abbrev again : ℕ → ℕ → List ℕ → List ℕ
 again zero i l = []
 again (suc n) i l = (lowByte (getD l i 0) + 256 * highByte (getD l i 0)) ∷ again n (suc i) l
 
-word-back : (w : ℕ) → w < 65536 → lowByte w + 256 * highByte w ≡ w
-word-back w h = omega arith
+both-bytes-back : (w : ℕ) → w < 65536 → lowByte w + 256 * highByte w ≡ w
+both-bytes-back w h = omega arith
 
 words-back : (l : List ℕ) → ((k : ℕ) → getD l k 0 < 65536) → (n i : ℕ) → i + n ≡ length l → again n i l ≡ drop i l
 words-back l h zero i e = sym (drop-of-length-le l {i = i} (omega arith))
-words-back l h (suc n) i e = rw (drop-cons l i 0 (omega arith)) (λ k. word-back (getD l i 0) (h i) k ∷ words-back l h n (suc i) (omega arith) k)
+words-back l h (suc n) i e = rw (drop-cons l i 0 (omega arith)) (λ k. both-bytes-back (getD l i 0) (h i) k ∷ words-back l h n (suc i) (omega arith) k)
 
 iffs-back : (a b : Bool) → (bitAt (bitOf a % 2 + 2 * (bitOf b % 2)) 1 ≡ a) × (bitAt (bitOf a % 2 + 2 * (bitOf b % 2)) 2 ≡ b)
 iffs-back true true = (refl, refl)
@@ -37,39 +37,39 @@ iffs-back true false = (refl, refl)
 iffs-back false true = (refl, refl)
 iffs-back false false = (refl, refl)
 
-carried-back : (k : Model) (b r : ℕ) → (k ≡ K48 → r ≡ 0) → b ≡ r → carried k b ≡ r
-carried-back K48 b r h e = sym (h refl)
-carried-back K128 b r h e = e
+scs-carried-back : (k : Model) (b r : ℕ) → (k ≡ K48 → r ≡ 0) → b ≡ r → carried k b ≡ r
+scs-carried-back K48 b r h e = sym (h refl)
+scs-carried-back K128 b r h e = e
 
 module _ (m : Machine) (t : Typed m) where
-  pairs-back : scsPairs (scsCpu m) ≡ m .pairs
+  scs-pairs-back : scsPairs (scsCpu m) ≡ m .pairs
   unfolding scsPairs scsCpu
-  pairs-back = words-back (m .pairs) (t .pairs) 12 0 (sym (t .count))
+  scs-pairs-back = words-back (m .pairs) (t .pairs) 12 0 (sym (t .count))
 
-  sound-back : (k : Model) → (k ≡ K48 → m .sound ≡ replicate 16 0) → scsSound k (scsPorts m) ≡ m .sound
+  scs-sound-back : (k : Model) → (k ≡ K48 → m .sound ≡ replicate 16 0) → scsSound k (scsPorts m) ≡ m .sound
   unfolding scsPorts
-  sound-back K48 h = sym (h refl)
-  sound-back K128 h = take-all 16 (m .sound) (omega (arith, t .sound))
+  scs-sound-back K48 h = sym (h refl)
+  scs-sound-back K128 h = take-all 16 (m .sound) (omega (arith, t .sound))
 
   module _ (v : Valid m) where
-    switches-back : scsSwitches (scsCpu m) (scsPorts m) ≡ scsKeeps m .switches
+    scs-switches-back : scsSwitches (scsCpu m) (scsPorts m) ≡ scsKeeps m .switches
     unfolding scsSwitches scsCpu scsPorts scsKeeps
-    switches-back =
+    scs-switches-back =
         let iffs = iffs-back (m .switches .iff1) (m .switches .iff2) in
         cc (iffs .0, iffs .1, mod-eq-of-lt {n = m .switches .im} {m = 4} (omega (arith, v .im)), mod-eq-of-lt (v .border))
 
-    kept : scsMachine (m .model) (scsCpu m) (scsPorts m) ≡ scsKeeps m
+    blocks-kept : scsMachine (m .model) (scsCpu m) (scsPorts m) ≡ scsKeeps m
     unfolding scsMachine scsCpu scsPorts scsKeeps
-    kept =
+    blocks-kept =
         λ k. record {
-          pairs = pairs-back k;
+          pairs = scs-pairs-back k;
           i = m .i;
           r = m .r;
-          switches = switches-back k;
+          switches = scs-switches-back k;
           model = m .model;
-          out7ffd = carried-back (m .model) (m .out7ffd) (m .out7ffd) (v .out7ffd) refl k;
-          outfffd = carried-back (m .model) (m .outfffd % 16 % 16) (m .outfffd % 16) (λ e. rw (v .outfffd e)) (mod-mod (m .outfffd) 16) k;
-          sound = sound-back (m .model) (v .silent) k;
+          out7ffd = scs-carried-back (m .model) (m .out7ffd) (m .out7ffd) (v .out7ffd) refl k;
+          outfffd = scs-carried-back (m .model) (m .outfffd % 16 % 16) (m .outfffd % 16) (λ e. rw (v .outfffd e)) (mod-mod (m .outfffd) 16) k;
+          sound = scs-sound-back (m .model) (v .silent) k;
           attachment = Nothing;
           byte36 = 0;
           remulation = false;
@@ -80,7 +80,7 @@ module _ (m : Machine) (t : Typed m) where
         }
 
 pub machine-kept : (m : Machine) → Typed m → validOf m ≡ true → scsMachine (m .model) (scsCpu m) (scsPorts m) ≡ scsKeeps m
-machine-kept m t h = kept m t (valid-says m (t .sound) h)
+machine-kept m t h = blocks-kept m t (valid-says m (t .sound) h)
 
 pub keeps-read : (model : Model) (cpu ports : List ℕ) → scsKeeps (scsMachine model cpu ports) ≡ scsMachine model cpu ports
 unfolding scsKeeps scsMachine scsSwitches

@@ -24,44 +24,44 @@ unfolding validOf scsMachine scsSwitches
 scs-valid K48 cpu ports = tests (at cpu 26) (at ports 0)
 scs-valid K128 cpu ports = tests (at cpu 26) (at ports 0)
 
--- a list of words
-record Words (l : List ℕ) : Type 0 where
+-- a list of scs-words
+record AllWords (l : List ℕ) : Type 0 where
   small : (k : ℕ) → getD l k 0 < 65536
 
-none : Words []
+none : AllWords []
 none = record { small = λ k. omega arith }
 
 module _ (cpu : List ℕ) (h : (i : ℕ) → getD cpu i 0 < 256) where
-  more : {l : List ℕ} (i j : ℕ) → Words l → Words ((at cpu i + 256 * at cpu j) ∷ l)
-  more i j w = record { small = elim [ zero ↦ omega (arith, h i, h j) | suc k ↦ w .small k ] }
+  one-word : {l : List ℕ} (i j : ℕ) → AllWords l → AllWords ((at cpu i + 256 * at cpu j) ∷ l)
+  one-word i j w = record { small = elim [ zero ↦ omega (arith, h i, h j) | suc k ↦ w .small k ] }
 
-  words : Words (scsPairs cpu)
+  scs-words : AllWords (scsPairs cpu)
   unfolding scsPairs
-  words =
-      more 1 0 (more 3 2 (more 5 4 (more 7 6 (more 9 8 (more 11 10 (more 13 12 (more 15 14
-      (more 16 17 (more 18 19 (more 22 23 (more 20 21 none)))))))))))
+  scs-words =
+      one-word 1 0 (one-word 3 2 (one-word 5 4 (one-word 7 6 (one-word 9 8 (one-word 11 10 (one-word 13 12 (one-word 15 14
+      (one-word 16 17 (one-word 18 19 (one-word 22 23 (one-word 20 21 none)))))))))))
 
-twelve : (cpu : List ℕ) → length (scsPairs cpu) ≡ 12
+scs-pairs-count : (cpu : List ℕ) → length (scsPairs cpu) ≡ 12
 unfolding scsPairs
-twelve cpu = refl
+scs-pairs-count cpu = refl
 
 carried-small : (k : Model) (b : ℕ) → b < 256 → carried k b < 256
 carried-small K48 b h = omega arith
 carried-small K128 b h = h
 
-sixteen : (k : Model) (ports : List ℕ) → length ports ≡ 19 → length (scsSound k ports) ≡ 16
-sixteen K48 ports l = refl
-sixteen K128 ports l = simp (length-take, length-drop) (omega arith)
+scs-sound-long : (k : Model) (ports : List ℕ) → length ports ≡ 19 → length (scsSound k ports) ≡ 16
+scs-sound-long K48 ports l = refl
+scs-sound-long K128 ports l = simp (length-take, length-drop) (omega arith)
 
 pub scs-typed : (model : Model) (cpu ports : List ℕ) → ((i : ℕ) → getD cpu i 0 < 256) → ((i : ℕ) → getD ports i 0 < 256)
     → length ports ≡ 19 → Typed (scsMachine model cpu ports)
 unfolding scsMachine
 scs-typed model cpu ports c p l =
     record {
-      pairs = words cpu c .small;
-      count = twelve cpu;
+      pairs = scs-words cpu c .small;
+      count = scs-pairs-count cpu;
       r8 = c 25;
       out = carried-small model _ (p 1);
-      sound = sixteen model ports l;
+      sound = scs-sound-long model ports l;
       side = refl;
     }

@@ -155,7 +155,7 @@ pub fn low_first_pairs(p: [u16; 12]) -> [u8; 8]
     ]
 }
 
-fn bit_of(b: bool) -> u8
+fn iff_bit(b: bool) -> u8
     ensures { λ q. ⌜ q ≡ bitOf b ⌝ }
 {
     if b { 1 } else { 0 }
@@ -169,7 +169,7 @@ pub fn cpu_settings(i: u8, r: u8, s: Switches) -> [u8; 10]
         i,
         r,
         s.im,
-        bit_of(s.iff1) % 2 + 2 * (bit_of(s.iff2) % 2),
+        iff_bit(s.iff1) % 2 + 2 * (iff_bit(s.iff2) % 2),
         0,
         0,
         0,

@@ -15,7 +15,7 @@ use Rattle.slices.proofs.Puts.{put-put, put-zero}
 use Rattle.pages.specs.declared.Model.{Model}
 use Rattle.pages.specs.declared.Model.the-variants.{K48, K128}
 use Rattle.body_v1.specs.Body.{spread}
-use Rattle.scs_blocks.specs.ScsBlocks.{filled}
+use Rattle.scs_blocks.specs.ScsBlocks.{zeroFilled}
 use Rattle.scs_blocks.proofs.ScsFilled.{filled-long, filled-part}
 use Rattle.scs_memory.specs.ScsMemory.{scsMemory}
 
@@ -47,12 +47,12 @@ data-from src k from e = take-all (length src - from) (drop from src) (simp leng
         ap (λ (n : ℕ). drop n src) j
 
 pub page-loaded : (src d l : List ℕ) (k from base : ℕ) → from ≡ min k (length src) → base + 16384 ≤ length d
-    → l ≡ filled (length (midOf base (base + 16384 - base) d)) (take (length src - from) (drop from src))
-    → putMid base (base + 16384 - base) d l ≡ put d base (filled 16384 (drop k src))
+    → l ≡ zeroFilled (length (midOf base (base + 16384 - base) d)) (take (length src - from) (drop from src))
+    → putMid base (base + 16384 - base) d l ≡ put d base (zeroFilled 16384 (drop k src))
 page-loaded src d l k from base e h q =
     let z : base + 16384 - base ≡ 16384 = omega arith in
-    let p : l ≡ filled 16384 (drop k src) = q ∙ (λ i. filled ((mid-long d base (base + 16384 - base) (omega arith) ∙ z) i) (data-from src k from e i)) in
-    rw p (mid-put d (filled 16384 (drop k src)) base (base + 16384 - base) (filled-long 16384 (drop k src) ∙ sym z))
+    let p : l ≡ zeroFilled 16384 (drop k src) = q ∙ (λ i. zeroFilled ((mid-long d base (base + 16384 - base) (omega arith) ∙ z) i) (data-from src k from e i)) in
+    rw p (mid-put d (zeroFilled 16384 (drop k src)) base (base + 16384 - base) (filled-long 16384 (drop k src) ∙ sym z))
 
 -- six parts put one after the other
 six-parts : (d a b c e f g : List ℕ) → length a ≡ 16384 → length b ≡ 16384 → length c ≡ 16384 → length e ≡ 32768 → length f ≡ 16384 → length g ≡ 32768
@@ -116,22 +116,22 @@ spread-parts xs l =
     ∙ ap (λ (d : List ℕ). p0 ++ (blank 16384 ++ (p2 ++ (blank 32768 ++ (p5 ++ d))))) (append-nil (blank 32768))
 
 pub loaded-48k : (src area a b c d e f : List ℕ) → length area ≡ 131072
-    → a ≡ put area 0 (filled 16384 (drop 32768 src)) → b ≡ put a 16384 (replicate 16384 0)
-    → c ≡ put b 32768 (filled 16384 (drop 16384 src)) → d ≡ put c 49152 (replicate 32768 0)
-    → e ≡ put d 81920 (filled 16384 (drop 0 src)) → f ≡ put e 98304 (replicate 32768 0) → f ≡ scsMemory K48 src
+    → a ≡ put area 0 (zeroFilled 16384 (drop 32768 src)) → b ≡ put a 16384 (replicate 16384 0)
+    → c ≡ put b 32768 (zeroFilled 16384 (drop 16384 src)) → d ≡ put c 49152 (replicate 32768 0)
+    → e ≡ put d 81920 (zeroFilled 16384 (drop 0 src)) → f ≡ put e 98304 (replicate 32768 0) → f ≡ scsMemory K48 src
 unfolding scsMemory blank
 loaded-48k src area a b c d e f l ha hb hc hd he hf =
-    let page : (k : ℕ) → k + 16384 ≤ 49152 → filled 16384 (drop k src) ≡ take 16384 (drop k (filled 49152 src)) = λ k h. sym (filled-part 49152 16384 k src h) in
-    let long : (k : ℕ) → length (filled 16384 (drop k src)) ≡ 16384 = λ k. filled-long 16384 (drop k src) in
+    let page : (k : ℕ) → k + 16384 ≤ 49152 → zeroFilled 16384 (drop k src) ≡ take 16384 (drop k (zeroFilled 49152 src)) = λ k h. sym (filled-part 49152 16384 k src h) in
+    let long : (k : ℕ) → length (zeroFilled 16384 (drop k src)) ≡ 16384 = λ k. filled-long 16384 (drop k src) in
     rw (hf, he, hd, hc, hb, ha)
     (six-parts area _ _ _ _ _ _ (long 32768) (length-replicate {A = ℕ} 16384 0) (long 16384) (length-replicate {A = ℕ} 32768 0) (long 0) (length-replicate {A = ℕ} 32768 0) l
     ∙ (λ i. page 32768 (omega arith) i ++ (blank 16384 ++ (page 16384 (omega arith) i ++ (blank 32768 ++ (page 0 (omega arith) i ++ blank 32768)))))
-    ∙ sym (spread-parts (filled 49152 src) (filled-long 49152 src)))
+    ∙ sym (spread-parts (zeroFilled 49152 src) (filled-long 49152 src)))
 
 module _ (model : Model) (src area after : List ℕ) where
   pub loads-48 : model ≡ K48 → after ≡ scsMemory K48 src → after ≡ scsMemory model src
   loads-48 e h = rw e h
 
-  pub loads-128 : model ≡ K128 → length area ≡ 131072 → after ≡ filled (length area) src → after ≡ scsMemory model src
+  pub loads-128 : model ≡ K128 → length area ≡ 131072 → after ≡ zeroFilled (length area) src → after ≡ scsMemory model src
   unfolding scsMemory
-  loads-128 e l h = rw e (h ∙ ap (λ (n : ℕ). filled n src) l)
+  loads-128 e l h = rw e (h ∙ ap (λ (n : ℕ). zeroFilled n src) l)

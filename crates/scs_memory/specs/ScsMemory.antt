@@ -6,7 +6,7 @@ use Rattle.pages.specs.declared.Model.{Model}
 use Rattle.pages.specs.declared.Model.the-variants.{K48, K128}
 use Rattle.pages.specs.Pages.{pageIn}
 use Rattle.body_v1.specs.Body.{spread}
-use Rattle.scs_blocks.specs.ScsBlocks.{filled}
+use Rattle.scs_blocks.specs.ScsBlocks.{zeroFilled}
 
 -- how many bytes are due
 abbrev pub memorySize : Model → ℕ
@@ -15,8 +15,8 @@ memorySize K128 = 131072
 
 -- the area that a block's data give; in 48K they are spread as those of v1, into pages 5, 2 and 0 of an area of zeros
 unfoldable pub scsMemory : Model → List ℕ → List ℕ
-scsMemory K48 xs = spread (blank 131072) (filled 49152 xs)
-scsMemory K128 xs = filled 131072 xs
+scsMemory K48 xs = spread (blank 131072) (zeroFilled 49152 xs)
+scsMemory K128 xs = zeroFilled 131072 xs
 
 -- the data that are written of an area
 unfoldable pub scsData : Model → List ℕ → List ℕ

@@ -5,7 +5,7 @@ ghost use mathlib.Core.Path.{_≡_};
 ghost use lib.ListN.{length, take, drop, replicate};
 ghost use Rattle.slices.specs.Put.{put};
 ghost use Rattle.pages.specs.declared.Model.the-variants.{K48};
-ghost use Rattle.scs_blocks.specs.ScsBlocks.{filled};
+ghost use Rattle.scs_blocks.specs.ScsBlocks.{zeroFilled};
 ghost use Rattle.scs_memory.specs.ScsMemory.{memorySize, scsMemory, scsData};
 
 // A block's data into the area.
@@ -35,7 +35,7 @@ fn load_48k(src: &[u8], area: &mut [u8])
 // The page that is due of the data from place k on.
 fn load_page(src: &[u8], k: usize, area: &mut [u8], base: usize)
     requires { ⌜ base + 16384 ≤ length (now area) ⌝ }
-    ensures { λ _. ⌜ now (area .exit) ≡ put (now (area .entry)) base (filled 16384 (drop k (now (src .entry)))) ⌝ }
+    ensures { λ _. ⌜ now (area .exit) ≡ put (now (area .entry)) base (zeroFilled 16384 (drop k (now (src .entry)))) ⌝ }
 {
     let from = slices::least(k, src.len());
     let top = base + 16384;

@@ -31,9 +31,9 @@ module _ (s : List ℕ) (model : Model) where
   first-other n = rw (ne-eqb (at s 15) 3 n)
 
 module _ (s : List ℕ) where
-  pub head-short : length s < 15 → Bad FileShort ≡ scsHeadOf s
+  pub scs-head-short : length s < 15 → Bad FileShort ≡ scsHeadOf s
   unfolding scsHeadOf
-  head-short h = rw (lt-ltb (length s) 15 h)
+  scs-head-short h = rw (lt-ltb (length s) 15 h)
 
   module _ (l : 15 ≤ length s) (t : Bool) (e : t ≡ same (take 8 s) samSnap) where
     pub head-unnamed : t ≡ false → Bad ScsHeader ≡ scsHeadOf s

@@ -19,7 +19,7 @@ use Rattle.z80read.specs.Read.{ReadResult, refusedRead, ReadLeaves, Reads}
 use Rattle.scs_blocks.specs.declared.ScsSeen.{ScsSeen}
 use Rattle.scs_blocks.specs.declared.ScsFound.{ScsFound}
 use Rattle.scs_blocks.specs.declared.ScsFound.the-variants.{Bad, Blocks}
-use Rattle.scs_blocks.specs.ScsBlocks.{allSeen, scsBlocks, dataOf, filled}
+use Rattle.scs_blocks.specs.ScsBlocks.{threeSeen, scsBlocks, dataOf, zeroFilled}
 use Rattle.scs_blocks.proofs.ScsInside.{blocks-inside}
 use Rattle.scs_machine.specs.ScsMachine.{scsMode, scsMachine}
 use Rattle.scs_machine.proofs.ScsRead.{scs-valid}
@@ -36,10 +36,10 @@ refused-reads o why n r area e l = subst (λ (x : ReadResult). Reads x r area) e
 -- what is loaded is valid where it is accepted
 loaded-valid : (seen : ScsSeen) (model : Model) (s : List ℕ) (n : ℕ) → afterSeen seen model s n .answer ≡ Accepted → validOf (afterSeen seen model s n .machine) ≡ true
 loaded-valid seen model s n =
-    let cpu = filled 34 (dataOf s (seen .cpu)) in
+    let cpu = zeroFilled 34 (dataOf s (seen .cpu)) in
     let P : ReadResult → Type 0 = λ o. o .answer ≡ Accepted → validOf (o .machine) ≡ true in
-    either P (allSeen seen) _ _
-    (λ t. either P (eqb (scsMode cpu) 3) _ _ (λ e a. absurd (refused-not _ a)) (λ e a. scs-valid model cpu (filled 19 (dataOf s (seen .ports))) (eqb-false _ _ e)))
+    either P (threeSeen seen) _ _
+    (λ t. either P (eqb (scsMode cpu) 3) _ _ (λ e a. absurd (refused-not _ a)) (λ e a. scs-valid model cpu (zeroFilled 19 (dataOf s (seen .ports))) (eqb-false _ _ e)))
     (λ t a. absurd (refused-not _ a))
 
 pub scs-loadable : (s area : List ℕ) (found : ScsFound) (seen : ScsSeen) → found ≡ scsBlocks s 15 → found ≡ Blocks seen → length area ≡ 131072 → Loadable s seen area
@@ -51,16 +51,16 @@ module _ (s area : List ℕ) (r : Opened) (after : List ℕ) where
   scs-length h l = refused-reads _ AreaLength (length area) r after (rw (ne-eqb (length area) 131072 h)) l
 
   module _ (h : length area ≡ 131072) (head : ScsHead) (eh : head ≡ scsHeadOf s) where
-    after-head : afterScsHead head s (length area) ≡ scsReadOf s (length area)
+    scs-after-head : afterScsHead head s (length area) ≡ scsReadOf s (length area)
     unfolding scsReadOf
-    after-head = rw (eq-eqb (length area) 131072 h, ← eh)
+    scs-after-head = rw (eq-eqb (length area) 131072 h, ← eh)
 
     pub scs-head-refused : (why : Refusal) → head ≡ ScsHead.Bad why → ReadLeaves (refusedRead why (length area)) r after → Reads (scsReadOf s (length area)) r after
-    scs-head-refused why e l = refused-reads _ why (length area) r after (sym (ap (λ (x : ScsHead). afterScsHead x s (length area)) e) ∙ after-head) l
+    scs-head-refused why e l = refused-reads _ why (length area) r after (sym (ap (λ (x : ScsHead). afterScsHead x s (length area)) e) ∙ scs-after-head) l
 
     module _ (model : Model) (em : head ≡ Spectrum model) (found : ScsFound) (ef : found ≡ scsBlocks s 15) where
       after-found : afterFound found model s (length area) ≡ scsReadOf s (length area)
-      after-found = ap (λ (x : ScsFound). afterFound x model s (length area)) ef ∙ sym (ap (λ (x : ScsHead). afterScsHead x s (length area)) em) ∙ after-head
+      after-found = ap (λ (x : ScsFound). afterFound x model s (length area)) ef ∙ sym (ap (λ (x : ScsHead). afterScsHead x s (length area)) em) ∙ scs-after-head
 
       pub scs-blocks-refused : (why : Refusal) → found ≡ Bad why → ReadLeaves (refusedRead why (length area)) r after → Reads (scsReadOf s (length area)) r after
       scs-blocks-refused why e l = refused-reads _ why (length area) r after (sym (ap (λ (x : ScsFound). afterFound x model s (length area)) e) ∙ after-found) l

@@ -11,7 +11,7 @@ use Rattle.z80read.specs.Read.{ReadResult, refusedRead}
 use Rattle.scs_blocks.specs.declared.ScsSeen.{ScsSeen}
 use Rattle.scs_blocks.specs.declared.ScsFound.{ScsFound}
 use Rattle.scs_blocks.specs.declared.ScsFound.the-variants.{Bad, Blocks}
-use Rattle.scs_blocks.specs.ScsBlocks.{allSeen, scsBlocks, dataOf, filled}
+use Rattle.scs_blocks.specs.ScsBlocks.{threeSeen, scsBlocks, dataOf, zeroFilled}
 use Rattle.scs_machine.specs.ScsMachine.{scsMode, scsMachine}
 use Rattle.scs_memory.specs.ScsMemory.{scsMemory}
 use Rattle.scs_read.specs.declared.ScsHead.{ScsHead}
@@ -21,13 +21,13 @@ use Rattle.scs_read.specs.ScsHeads.{scsHeadOf}
 -- the machine and the memory of three blocks' data: 34 bytes are due of CPU, 19 of Ports; "last 5"
 abbrev pub scsLoaded : Model → List ℕ → List ℕ → List ℕ → ℕ → ReadResult
 scsLoaded model cpu ports memory n =
-    choose (eqb (scsMode (filled 34 cpu)) 3) (refusedRead InterruptMode n)
-    (record { answer = Accepted; machine = scsMachine model (filled 34 cpu) (filled 19 ports); memory = scsMemory model memory })
+    choose (eqb (scsMode (zeroFilled 34 cpu)) 3) (refusedRead InterruptMode n)
+    (record { answer = Accepted; machine = scsMachine model (zeroFilled 34 cpu) (zeroFilled 19 ports); memory = scsMemory model memory })
 
 -- "41 one of them missing"
 abbrev pub afterSeen : ScsSeen → Model → List ℕ → ℕ → ReadResult
 afterSeen seen model s n =
-    choose (allSeen seen) (scsLoaded model (dataOf s (seen .cpu)) (dataOf s (seen .ports)) (dataOf s (seen .memory)) n) (refusedRead ScsBlockMissing n)
+    choose (threeSeen seen) (scsLoaded model (dataOf s (seen .cpu)) (dataOf s (seen .ports)) (dataOf s (seen .memory)) n) (refusedRead ScsBlockMissing n)
 
 abbrev pub afterFound : ScsFound → Model → List ℕ → ℕ → ReadResult
 afterFound (Bad why) model s n = refusedRead why n

@@ -14,7 +14,7 @@ ghost use lib.ListN.{length, take};
 ghost use Rattle.slices.specs.Same.{same};
 ghost use Rattle.z80read.specs.Read.{refusedRead, ReadLeaves, Reads};
 ghost use Rattle.scs_blocks.specs.ScsIdentity.{samSnap};
-ghost use Rattle.scs_blocks.specs.ScsBlocks.{allSeen, dataOf, filled};
+ghost use Rattle.scs_blocks.specs.ScsBlocks.{threeSeen, dataOf, zeroFilled};
 ghost use Rattle.scs_blocks.specs.Inner.{PartInside};
 ghost use Rattle.scs_memory.specs.ScsMemory.{scsMemory};
 ghost use Rattle.scs_read.specs.ScsHeads.{memoryFirst, scsHeadOf};
@@ -105,7 +105,7 @@ fn load(file: &[u8], model: Model, seen: ScsSeen, area: &mut [u8]) -> Opened
     let cpu_part = seen.cpu;
     let ports_part = seen.ports;
     let memory_part = seen.memory;
-    if all_seen(seen) {
+    if saw_all(seen) {
         let cpu = cpu_of(file, cpu_part);
         if cpu[26] % 4 == 3 {
             return refused_scs(area, Refusal::InterruptMode);
@@ -121,8 +121,8 @@ fn load(file: &[u8], model: Model, seen: ScsSeen, area: &mut [u8]) -> Opened
     refused_scs(area, Refusal::ScsBlockMissing)
 }
 
-fn all_seen(seen: ScsSeen) -> bool
-    ensures { λ r. ⌜ r ≡ allSeen seen ⌝ }
+fn saw_all(seen: ScsSeen) -> bool
+    ensures { λ r. ⌜ r ≡ threeSeen seen ⌝ }
 {
     let cpu = seen.cpu;
     let ports = seen.ports;
@@ -135,7 +135,7 @@ fn all_seen(seen: ScsSeen) -> bool
 
 fn cpu_of(file: &[u8], part: ScsPart) -> [u8; 34]
     requires { ⌜ PartInside (length (now file)) part ⌝ }
-    ensures { λ r. ⌜ r ≡ filled 34 (dataOf (now (file .entry)) part) ⌝ }
+    ensures { λ r. ⌜ r ≡ zeroFilled 34 (dataOf (now (file .entry)) part) ⌝ }
 {
     let mut cpu = [0u8; 34];
     fill_part(file, part, &mut cpu);
@@ -144,7 +144,7 @@ fn cpu_of(file: &[u8], part: ScsPart) -> [u8; 34]
 
 fn ports_of(file: &[u8], part: ScsPart) -> [u8; 19]
     requires { ⌜ PartInside (length (now file)) part ⌝ }
-    ensures { λ r. ⌜ r ≡ filled 19 (dataOf (now (file .entry)) part) ⌝ }
+    ensures { λ r. ⌜ r ≡ zeroFilled 19 (dataOf (now (file .entry)) part) ⌝ }
 {
     let mut ports = [0u8; 19];
     fill_part(file, part, &mut ports);
@@ -154,7 +154,7 @@ fn ports_of(file: &[u8], part: ScsPart) -> [u8; 19]
 // What is due of a block's data.
 fn fill_part(file: &[u8], part: ScsPart, dst: &mut [u8])
     requires { ⌜ PartInside (length (now file)) part ⌝ }
-    ensures { λ _. ⌜ now (dst .exit) ≡ filled (length (now (dst .entry))) (dataOf (now (file .entry)) part) ⌝ }
+    ensures { λ _. ⌜ now (dst .exit) ≡ zeroFilled (length (now (dst .entry))) (dataOf (now (file .entry)) part) ⌝ }
 {
     match part {
         ScsPart::Absent => slices::fill(dst, 0),

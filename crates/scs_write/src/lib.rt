@@ -24,7 +24,7 @@ pub fn write(m: Machine, area: &[u8], out: &mut [u8]) -> Written
             return refused_scs_write(out, Refusal::MemoryLength);
         }
         let model = m.model;
-        let length = 88 + memory_size(model);
+        let length = 88 + size_of_memory(model);
         if out.len() < length {
             return refused_scs_write(out, Refusal::OutputShort);
         }
@@ -47,7 +47,7 @@ fn refused_scs_write(out: &mut [u8], why: Refusal) -> Written
     }
 }
 
-fn memory_size(model: Model) -> usize
+fn size_of_memory(model: Model) -> usize
     ensures { λ r. ⌜ r ≡ memorySize model ⌝ }
 {
     match model {
@@ -63,8 +63,8 @@ fn lay_file(m: Machine, area: &[u8], out: &mut [u8])
 {
     m.typed();
     let model = m.model;
-    let end = 20 + memory_size(model);
-    slices::put_at(out, 0, &front(model));
+    let end = 20 + size_of_memory(model);
+    slices::put_at(out, 0, &file_front(model));
     scs_memory::store_memory(area, model, out, 20);
     put_cpu(m, out, end);
     put_ports(m, out, end + 39);
@@ -72,7 +72,7 @@ fn lay_file(m: Machine, area: &[u8], out: &mut [u8])
 }
 
 // The header, and the head of the Memory block.
-fn front(model: Model) -> [u8; 20]
+fn file_front(model: Model) -> [u8; 20]
     ensures { λ r. ⌜ r ≡ scsHeader model ++ (3 ∷ sizeBytes (memorySize model)) ⌝ }
 {
     match model {

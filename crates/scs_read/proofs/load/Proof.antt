@@ -3,8 +3,8 @@ use borrow.Author.Needs.{needs}
 use Rattle.scs_read.proofs.load.Statement.{statement}
 use Rattle.scs_read.proofs.load.Tie as tie
 
-all-seen-requires : tie.Need-all-seen-requires
-all-seen-requires c κs = search needs
+saw-all-requires : tie.Need-saw-all-requires
+saw-all-requires c κs = search needs
 
 cpu-of-requires : tie.Need-cpu-of-requires
 cpu-of-requires c κs = search needs
@@ -49,7 +49,7 @@ pub load-spec : {M : Type 1} → statement M
 load-spec =
     tie.close
     (tie.spec
-    all-seen-requires
+    saw-all-requires
     cpu-of-requires
     array-read-if2
     refused-scs-requires

@@ -1,10 +1,10 @@
-use Rattle.scs_read.proofs.ScsHeadSteps.{head-short, head-unnamed, head-48, head-128, head-other}
+use Rattle.scs_read.proofs.ScsHeadSteps.{scs-head-short, head-unnamed, head-48, head-128, head-other}
 use borrow.Author.Needs.{needs}
 use Rattle.scs_read.proofs.read_scs_head.Statement.{statement}
 use Rattle.scs_read.proofs.read_scs_head.Tie as tie
 
 returns : tie.Need-returns
-returns c = search head-short
+returns c = search scs-head-short
 
 has-name-requires : tie.Need-has-name-requires
 has-name-requires c κs = search needs

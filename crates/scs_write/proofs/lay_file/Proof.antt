@@ -6,14 +6,14 @@ use Rattle.scs_write.proofs.lay_file.Tie as tie
 typed-requires : tie.Need-typed-requires
 typed-requires c κs = search needs
 
-memory-size-requires : tie.Need-memory-size-requires
-memory-size-requires c κs = search needs
+size-of-memory-requires : tie.Need-size-of-memory-requires
+size-of-memory-requires c κs = search needs
 
 add-end : tie.Need-add-end
 add-end c = search needs
 
-front-requires : tie.Need-front-requires
-front-requires c κs = search needs
+file-front-requires : tie.Need-file-front-requires
+file-front-requires c κs = search needs
 
 slice-aggregate-put-at : tie.Need-slice-aggregate-put-at
 slice-aggregate-put-at c = search needs
@@ -45,7 +45,7 @@ same-length c = search needs
 returns : tie.Need-returns
 returns c =
     let start = c .before .before .before .before .before .before .before .before .before .before .before .before .before .before .before .before .before .before .before .before .before .before .before .before .before .before in
-    file-laid _ _ (c .before .before .before .before .before .before .before .before .before .before .before .before .before .before .before .before .before .before .before .before .before .before .before .typed .ensures) (start .pre .0) _ _ _ _ _ _ _ _ (start .pre .1) (c .before .before .before .before .before .before .before .before .before .before .before .before .before .before .before .before .before .before .before .before .before .before .memory-size .ensures) (c .before .before .before .before .before .before .before .before .before .before .before .before .before .before .before .before .before .before .before .before .front .ensures)
+    file-laid _ _ (c .before .before .before .before .before .before .before .before .before .before .before .before .before .before .before .before .before .before .before .before .before .before .before .typed .ensures) (start .pre .0) _ _ _ _ _ _ _ _ (start .pre .1) (c .before .before .before .before .before .before .before .before .before .before .before .before .before .before .before .before .before .before .before .before .before .before .size-of-memory .ensures) (c .before .before .before .before .before .before .before .before .before .before .before .before .before .before .before .before .before .before .before .before .file-front .ensures)
     (c .before .before .before .before .before .before .before .before .before .before .before .before .before .before .before .before .before .before .put-at .ensures) (c .before .before .before .before .before .before .before .before .before .before .before .before .before .before .store-memory .ensures) (c .before .before .before .before .before .before .before .before .before .before .put-cpu .ensures) (c .before .before .before .before .before .before .put-ports .ensures) (c .before .before .clear-from .ensures)
 
 pub lay-file-spec : {M : Type 1} → statement M
@@ -53,9 +53,9 @@ lay-file-spec =
     tie.close
     (tie.spec
     typed-requires
-    memory-size-requires
+    size-of-memory-requires
     add-end
-    front-requires
+    file-front-requires
     slice-aggregate-put-at
     put-at-requires
     store-memory-requires

@@ -18,12 +18,12 @@ same-length c = search needs
 returns : tie.Need-returns
 returns c = search scs-no-memory
 
-memory-size-requires : tie.Need-memory-size-requires
-memory-size-requires c κs = search needs
+size-of-memory-requires : tie.Need-size-of-memory-requires
+size-of-memory-requires c κs = search needs
 
 add-length : tie.Need-add-length
 add-length c =
-    let h = size-small (c .before .before .before .before .before .before .before .args .m .model) _ (c .memory-size .ensures) in
+    let h = size-small (c .before .before .before .before .before .before .before .args .m .model) _ (c .size-of-memory .ensures) in
     search (needs, h)
 
 refused-scs-write-requires-2 : tie.Need-refused-scs-write-requires-2
@@ -62,7 +62,7 @@ write-spec =
     refused-scs-write-requires
     same-length
     returns
-    memory-size-requires
+    size-of-memory-requires
     add-length
     refused-scs-write-requires-2
     same-length-2

@@ -1,7 +1,7 @@
 use Rattle.scs_read.proofs.ScsLoadSteps.{seen-all}
 use borrow.Author.Needs.{needs}
-use Rattle.scs_read.proofs.all_seen.Statement.{statement}
-use Rattle.scs_read.proofs.all_seen.Tie as tie
+use Rattle.scs_read.proofs.saw_all.Statement.{statement}
+use Rattle.scs_read.proofs.saw_all.Tie as tie
 
 is-there-requires : tie.Need-is-there-requires
 is-there-requires c κs = search needs
@@ -21,8 +21,8 @@ and-requires-2 c κs = search needs
 returns : tie.Need-returns
 returns c = search seen-all
 
-pub all-seen-spec : {M : Type 1} → statement M
-all-seen-spec =
+pub saw-all-spec : {M : Type 1} → statement M
+saw-all-spec =
     tie.close
     (tie.spec
     is-there-requires
