@@ -1,3 +1,4 @@
+mod ScsKept
 pub mod ScsAreas
 mod ScsStepOver
 pub mod ScsFileBack

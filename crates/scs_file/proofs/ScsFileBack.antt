@@ -25,9 +25,9 @@ use Rattle.scs_blocks.specs.ScsBlocks.{scsBlocks, zeroFilled}
 use Rattle.scs_blocks.proofs.ScsSoFar.{scs-begin, found-end}
 use Rattle.scs_blocks.proofs.ScsFilled.{filled-whole}
 use Rattle.scs_machine.specs.ScsMachine.{scsMode, scsMachine}
-use Rattle.scs_machine.specs.ScsPieces.{scsCpu, scsPorts}
-use Rattle.scs_machine.specs.ScsKeeps.{scsKeeps}
-use Rattle.scs_machine.proofs.ScsKept.{machine-kept}
+use Rattle.scs_pieces.specs.ScsPieces.{scsCpu, scsPorts}
+use Rattle.scs_file.specs.ScsKeeps.{scsKeeps}
+use Rattle.scs_file.proofs.ScsKept.{machine-kept}
 use Rattle.scs_memory.specs.ScsMemory.{memorySize, scsMemory, scsData}
 use Rattle.scs_memory.proofs.ScsLengths.{data-long}
 use Rattle.scs_read.specs.declared.ScsHead.{ScsHead}

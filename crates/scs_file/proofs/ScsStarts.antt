@@ -24,8 +24,8 @@ use Rattle.scs_blocks.specs.declared.ScsFound.the-variants.{Bad, Blocks}
 use Rattle.scs_blocks.specs.ScsBlocks.{threeSeen, scsBlocks, dataOf, zeroFilled}
 use Rattle.scs_blocks.proofs.ScsFilled.{filled-long, filled-at}
 use Rattle.scs_machine.specs.ScsMachine.{scsMode, scsMachine}
-use Rattle.scs_machine.specs.ScsKeeps.{scsKeeps}
-use Rattle.scs_machine.proofs.ScsKept.{keeps-read}
+use Rattle.scs_file.specs.ScsKeeps.{scsKeeps}
+use Rattle.scs_file.proofs.ScsKept.{keeps-read}
 use Rattle.scs_machine.proofs.ScsRead.{scs-valid, scs-typed}
 use Rattle.scs_memory.specs.ScsMemory.{scsMemory}
 use Rattle.scs_read.specs.declared.ScsHead.{ScsHead}

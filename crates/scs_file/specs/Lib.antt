@@ -1,2 +1,3 @@
+pub mod ScsKeeps
 pub mod ScsRoundTrip
 pub mod Theorems

@@ -10,7 +10,7 @@ use Rattle.spectrum.specs.Valid.{Typed, validOf}
 use Rattle.z80read.specs.Read.{ReadResult}
 use Rattle.z80write.specs.Written.{WriteResult}
 use Rattle.z80file.specs.Clean.{Clean}
-use Rattle.scs_machine.specs.ScsKeeps.{scsKeeps}
+use Rattle.scs_file.specs.ScsKeeps.{scsKeeps}
 
 -- DEMAND 2 FOR SCS, of a way to read and a way to write; it knows nothing of how either is defined. For a valid machine whose unused pages are
 -- zero, reading the written file gives what SCS keeps of the machine, and the memory. No file is longer than 131,160 bytes.

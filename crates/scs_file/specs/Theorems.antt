@@ -8,9 +8,12 @@ use Rattle.spectrum.specs.declared.Machine.{Machine}
 use Rattle.numbers.specs.declared.Answer.the-variants.{Accepted}
 use Rattle.spectrum.specs.Valid.{Typed, validOf}
 use Rattle.z80file.specs.Clean.{Clean, ReadGives}
-use Rattle.scs_machine.specs.ScsKeeps.{scsKeeps}
+use Rattle.pages.specs.declared.Model.{Model}
+use Rattle.scs_pieces.specs.ScsPieces.{scsCpu, scsPorts}
+use Rattle.scs_machine.specs.ScsMachine.{scsMachine}
 use Rattle.scs_read.specs.ScsReads.{scsReadOf}
 use Rattle.scs_write.specs.ScsWritten.{scsFileOf, scsWrittenOf}
+use Rattle.scs_file.specs.ScsKeeps.{scsKeeps}
 use Rattle.scs_file.specs.ScsRoundTrip.{ScsBackOf}
 
 pub record Theorems : Type 0 where
@@ -25,3 +28,7 @@ pub record Theorems : Type 0 where
   -- SCS keeps all that SCS reads: written again as SCS and read again, it is the same
   pub scs-again : (s : List ℕ) (n : ℕ) → ((i : ℕ) → getD s i 0 < 256) → scsReadOf s n .answer ≡ Accepted
       → scsReadOf (scsFileOf (scsReadOf s n .machine) (scsReadOf s n .memory)) 131072 ≡ scsReadOf s n
+  -- the blocks of a valid machine give back what SCS keeps of it
+  pub machine-kept : (m : Machine) → Typed m → validOf m ≡ true → scsMachine (m .model) (scsCpu m) (scsPorts m) ≡ scsKeeps m
+  -- SCS keeps all that SCS reads
+  pub keeps-read : (model : Model) (cpu ports : List ℕ) → scsKeeps (scsMachine model cpu ports) ≡ scsMachine model cpu ports

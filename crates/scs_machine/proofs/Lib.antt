@@ -1,3 +1,2 @@
-pub mod ScsKept
 pub mod ScsRead
 pub mod Theorems

@@ -1,4 +1,2 @@
 pub mod ScsMachine
-pub mod ScsPieces
-pub mod ScsKeeps
 pub mod Theorems

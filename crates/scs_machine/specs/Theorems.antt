@@ -5,17 +5,10 @@ use mathlib.Core.Bool.{true}
 use mathlib.Core.List.{List}
 use lib.ListN.{length, getD}
 use Rattle.pages.specs.declared.Model.{Model}
-use Rattle.spectrum.specs.declared.Machine.{Machine}
 use Rattle.spectrum.specs.Valid.{Typed, validOf}
 use Rattle.scs_machine.specs.ScsMachine.{scsMode, scsMachine}
-use Rattle.scs_machine.specs.ScsPieces.{scsCpu, scsPorts}
-use Rattle.scs_machine.specs.ScsKeeps.{scsKeeps}
 
 pub record Theorems : Type 0 where
-  -- the blocks of a valid machine give back what SCS keeps of it
-  pub machine-kept : (m : Machine) → Typed m → validOf m ≡ true → scsMachine (m .model) (scsCpu m) (scsPorts m) ≡ scsKeeps m
-  -- SCS keeps all that SCS reads
-  pub keeps-read : (model : Model) (cpu ports : List ℕ) → scsKeeps (scsMachine model cpu ports) ≡ scsMachine model cpu ports
   -- a machine that is read is valid, and as the types of the code say
   pub scs-valid : (model : Model) (cpu ports : List ℕ) → (scsMode cpu ≡ 3 → ⊥) → validOf (scsMachine model cpu ports) ≡ true
   pub scs-typed : (model : Model) (cpu ports : List ℕ) → ((i : ℕ) → getD cpu i 0 < 256) → ((i : ℕ) → getD ports i 0 < 256)

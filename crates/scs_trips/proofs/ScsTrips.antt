@@ -18,7 +18,7 @@ use Rattle.header_canonical.proofs.Canonical.{decoded-back}
 use Rattle.z80write.specs.Written.{WriteResult, acceptedWrite}
 use Rattle.z80file.specs.Clean.{Clean}
 use Rattle.file_bytes.specs.Files.{ReadBytes, WriteBytes, readInBytes, writtenInBytes, ReadsBytes, WritesBytes}
-use Rattle.scs_machine.specs.ScsKeeps.{scsKeeps}
+use Rattle.scs_file.specs.ScsKeeps.{scsKeeps}
 use Rattle.scs_memory.specs.ScsMemory.{memorySize}
 use Rattle.scs_read.specs.ScsReads.{scsReadOf}
 use Rattle.scs_write.specs.ScsWritten.{scsFileOf, scsWrittenOf}

@@ -7,7 +7,7 @@ use Rattle.spectrum.specs.declared.Machine.{Machine}
 use Rattle.header_write.specs.Writing.{headerOf, HeaderFor}
 use Rattle.z80file.specs.Clean.{Clean}
 use Rattle.file_bytes.specs.Files.{ReadsBytes, WritesBytes}
-use Rattle.scs_machine.specs.ScsKeeps.{scsKeeps}
+use Rattle.scs_file.specs.ScsKeeps.{scsKeeps}
 use Rattle.scs_memory.specs.ScsMemory.{memorySize}
 use Rattle.scs_bytes.specs.ScsBytes.{scsReadOfBytes, scsWriteOfBytes}
 use Rattle.server_trips.specs.declared.Trip.{Trip}

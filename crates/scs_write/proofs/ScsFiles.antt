@@ -9,7 +9,7 @@ use Rattle.pages.specs.declared.Model.{Model}
 use Rattle.pages.specs.declared.Model.the-variants.{K48, K128}
 use Rattle.spectrum.specs.declared.Machine.{Machine}
 use Rattle.spectrum.specs.Valid.{Typed}
-use Rattle.scs_machine.specs.ScsPieces.{scsCpu, scsPorts}
+use Rattle.scs_pieces.specs.ScsPieces.{scsCpu, scsPorts}
 use Rattle.scs_memory.specs.ScsMemory.{memorySize, scsData}
 use Rattle.scs_memory.proofs.ScsLengths.{data-long}
 use Rattle.scs_write.specs.ScsWritten.{scsHeader, sizeBytes, scsBlock, scsFileOf}

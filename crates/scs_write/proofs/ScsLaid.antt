@@ -9,7 +9,7 @@ use Rattle.slices.specs.Put.{put}
 use Rattle.slices.proofs.Puts.{put-put, put-zero, length-put}
 use Rattle.spectrum.specs.declared.Machine.{Machine}
 use Rattle.spectrum.specs.Valid.{Typed}
-use Rattle.scs_machine.specs.ScsPieces.{highFirstPairs, lowFirstPairs, cpuSettings, scsCpu, portsFront, scsPorts}
+use Rattle.scs_pieces.specs.ScsPieces.{highFirstPairs, lowFirstPairs, cpuSettings, scsCpu, portsFront, scsPorts}
 use Rattle.scs_write.specs.ScsWritten.{sizeBytes, scsBlock}
 
 four-puts : (d h a b c : List ℕ) (place : ℕ) → length h ≡ 5 → length a ≡ 16 → length b ≡ 8 → place + 39 ≤ length d

@@ -10,7 +10,7 @@ use Rattle.spectrum.specs.declared.Machine.{Machine}
 use Rattle.spectrum.specs.Valid.{validOf}
 use Rattle.z80write.specs.Written.{WriteResult, refusedWrite, acceptedWrite}
 use Rattle.scs_blocks.specs.ScsIdentity.{samSnap, hardwareOf}
-use Rattle.scs_machine.specs.ScsPieces.{scsCpu, scsPorts}
+use Rattle.scs_pieces.specs.ScsPieces.{scsCpu, scsPorts}
 use Rattle.scs_memory.specs.ScsMemory.{scsData}
 
 -- "SamSnap!", "ASCD", 0, 98, the hardware's number

@@ -10,7 +10,7 @@ ghost use mathlib.Core.List.{_++_, _∷_};
 ghost use lib.ListN.{length, replicate};
 ghost use Rattle.slices.specs.Put.{put};
 ghost use Rattle.z80write.specs.Written.{refusedWrite, Writes};
-ghost use Rattle.scs_machine.specs.ScsPieces.{scsCpu, scsPorts};
+ghost use Rattle.scs_pieces.specs.ScsPieces.{scsCpu, scsPorts};
 ghost use Rattle.scs_memory.specs.ScsMemory.{memorySize};
 ghost use Rattle.scs_write.specs.ScsWritten.{scsHeader, sizeBytes, scsBlock, scsFileOf, scsWrittenOf};
 
@@ -130,12 +130,12 @@ fn put_cpu(m: Machine, out: &mut [u8], place: usize)
     let pairs = m.pairs;
     let switches = m.switches;
     slices::put_at(out, place, &[1, 34, 0, 0, 0]);
-    slices::put_at(out, place + 5, &scs_machine::high_first_pairs(pairs));
-    slices::put_at(out, place + 21, &scs_machine::low_first_pairs(pairs));
+    slices::put_at(out, place + 5, &scs_pieces::high_first_pairs(pairs));
+    slices::put_at(out, place + 21, &scs_pieces::low_first_pairs(pairs));
     slices::put_at(
         out,
         place + 29,
-        &scs_machine::cpu_settings(m.i, m.r, switches),
+        &scs_pieces::cpu_settings(m.i, m.r, switches),
     );
 }
 
@@ -146,6 +146,6 @@ fn put_ports(m: Machine, out: &mut [u8], place: usize)
     m.typed();
     let sound = m.sound;
     slices::put_at(out, place, &[2, 19, 0, 0, 0]);
-    slices::put_at(out, place + 5, &scs_machine::ports_front(m));
+    slices::put_at(out, place + 5, &scs_pieces::ports_front(m));
     slices::put16(out, place + 8, &sound);
 }

@@ -1,6 +1,6 @@
 use borrow.Author.Needs.{needs}
-use Rattle.scs_machine.proofs.cpu_settings.Statement.{statement}
-use Rattle.scs_machine.proofs.cpu_settings.Tie as tie
+use Rattle.scs_pieces.proofs.cpu_settings.Statement.{statement}
+use Rattle.scs_pieces.proofs.cpu_settings.Tie as tie
 
 returns : tie.Need-returns
 returns c = cc

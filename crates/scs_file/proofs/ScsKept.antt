@@ -15,9 +15,9 @@ use Rattle.spectrum.specs.declared.Attachment.the-variants.{Nothing}
 use Rattle.spectrum.specs.Valid.{Typed, Valid, validOf}
 use Rattle.spectrum.proofs.Validity.{valid-says}
 use Rattle.header_read.specs.Reading.{carried, noSide}
 use Rattle.scs_machine.specs.ScsMachine.{scsPairs, scsSwitches, scsSound, scsMachine}
-use Rattle.scs_machine.specs.ScsPieces.{scsCpu, scsPorts}
-use Rattle.scs_machine.specs.ScsKeeps.{scsKeeps}
+use Rattle.scs_pieces.specs.ScsPieces.{scsCpu, scsPorts}
+use Rattle.scs_file.specs.ScsKeeps.{scsKeeps}
 
 -- n words from i on, each made again of its bytes
 abbrev again : ℕ → ℕ → List ℕ → List ℕ
