@@ -30,9 +30,9 @@ use Rattle.scs_file.specs.ScsKeeps.{scsKeeps}
 use Rattle.scs_file.proofs.ScsKept.{machine-kept}
 use Rattle.scs_memory.specs.ScsMemory.{memorySize, scsMemory, scsData}
 use Rattle.scs_memory.proofs.ScsLengths.{data-long}
-use Rattle.scs_read.specs.declared.ScsHead.{ScsHead}
-use Rattle.scs_read.specs.declared.ScsHead.the-variants.{Spectrum}
-use Rattle.scs_read.specs.ScsHeads.{scsHeadOf}
+use Rattle.scs_head.specs.declared.ScsHead.{ScsHead}
+use Rattle.scs_head.specs.declared.ScsHead.the-variants.{Spectrum}
+use Rattle.scs_head.specs.ScsHeads.{scsHeadOf}
 use Rattle.scs_read.specs.ScsReads.{scsLoaded, afterFound, afterScsHead, scsReadOf}
 use Rattle.scs_write.specs.ScsWritten.{scsHeader, scsBlock, scsFileOf, scsWrittenOf}
 use Rattle.scs_write.proofs.ScsLaid.{ports-long}

@@ -28,9 +28,9 @@ use Rattle.scs_file.specs.ScsKeeps.{scsKeeps}
 use Rattle.scs_file.proofs.ScsKept.{keeps-read}
 use Rattle.scs_machine.proofs.ScsRead.{scs-valid, scs-typed}
 use Rattle.scs_memory.specs.ScsMemory.{scsMemory}
-use Rattle.scs_read.specs.declared.ScsHead.{ScsHead}
-use Rattle.scs_read.specs.declared.ScsHead.the-variants.{Spectrum}
-use Rattle.scs_read.specs.ScsHeads.{scsHeadOf}
+use Rattle.scs_head.specs.declared.ScsHead.{ScsHead}
+use Rattle.scs_head.specs.declared.ScsHead.the-variants.{Spectrum}
+use Rattle.scs_head.specs.ScsHeads.{scsHeadOf}
 use Rattle.scs_read.specs.ScsReads.{afterFound, afterScsHead, scsReadOf}
 use Rattle.scs_write.specs.ScsWritten.{scsFileOf}
 use Rattle.scs_file.proofs.ScsAreas.{clean-scs-memory}

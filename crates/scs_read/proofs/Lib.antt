@@ -1,3 +1,2 @@
-mod ScsHeadSteps
 mod ScsLoadSteps
 mod ScsReadSteps

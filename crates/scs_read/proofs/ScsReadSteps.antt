@@ -23,9 +23,9 @@ use Rattle.scs_blocks.specs.ScsBlocks.{threeSeen, scsBlocks, dataOf, zeroFilled
 use Rattle.scs_blocks.proofs.ScsInside.{blocks-inside}
 use Rattle.scs_machine.specs.ScsMachine.{scsMode, scsMachine}
 use Rattle.scs_machine.proofs.ScsRead.{scs-valid}
-use Rattle.scs_read.specs.declared.ScsHead.{ScsHead}
-use Rattle.scs_read.specs.declared.ScsHead.the-variants.{Spectrum}
-use Rattle.scs_read.specs.ScsHeads.{scsHeadOf}
+use Rattle.scs_head.specs.declared.ScsHead.{ScsHead}
+use Rattle.scs_head.specs.declared.ScsHead.the-variants.{Spectrum}
+use Rattle.scs_head.specs.ScsHeads.{scsHeadOf}
 use Rattle.scs_read.specs.ScsReads.{scsLoaded, afterSeen, afterFound, afterScsHead, scsReadOf}
 use Rattle.scs_read.specs.Inner.{Loadable}
 

@@ -1,3 +1,2 @@
-pub mod ScsHeads
 pub mod ScsReads
 pub mod Inner

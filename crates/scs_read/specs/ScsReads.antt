@@ -14,9 +14,9 @@ use Rattle.scs_blocks.specs.declared.ScsFound.the-variants.{Bad, Blocks}
 use Rattle.scs_blocks.specs.ScsBlocks.{threeSeen, scsBlocks, dataOf, zeroFilled}
 use Rattle.scs_machine.specs.ScsMachine.{scsMode, scsMachine}
 use Rattle.scs_memory.specs.ScsMemory.{scsMemory}
-use Rattle.scs_read.specs.declared.ScsHead.{ScsHead}
-use Rattle.scs_read.specs.declared.ScsHead.the-variants.{Spectrum}
-use Rattle.scs_read.specs.ScsHeads.{scsHeadOf}
+use Rattle.scs_head.specs.declared.ScsHead.{ScsHead}
+use Rattle.scs_head.specs.declared.ScsHead.the-variants.{Spectrum}
+use Rattle.scs_head.specs.ScsHeads.{scsHeadOf}
 
 -- the machine and the memory of three blocks' data: 34 bytes are due of CPU, 19 of Ports; "last 5"
 abbrev pub scsLoaded : Model → List ℕ → List ℕ → List ℕ → ℕ → ReadResult

@@ -6,26 +6,17 @@ use pages::Model;
 use scs_blocks::ScsFound;
 use scs_blocks::ScsPart;
 use scs_blocks::ScsSeen;
+use scs_head::ScsHead;
 use spectrum::Machine;
 use z80read::Opened;
-ghost use Prim.Native.Nat.{_≤_};
 ghost use mathlib.Core.Path.{_≡_};
-ghost use lib.ListN.{length, take};
-ghost use Rattle.slices.specs.Same.{same};
+ghost use lib.ListN.{length};
 ghost use Rattle.z80read.specs.Read.{refusedRead, ReadLeaves, Reads};
-ghost use Rattle.scs_blocks.specs.ScsIdentity.{samSnap};
 ghost use Rattle.scs_blocks.specs.ScsBlocks.{threeSeen, dataOf, zeroFilled};
 ghost use Rattle.scs_blocks.specs.Inner.{PartInside};
 ghost use Rattle.scs_memory.specs.ScsMemory.{scsMemory};
-ghost use Rattle.scs_read.specs.ScsHeads.{memoryFirst, scsHeadOf};
 ghost use Rattle.scs_read.specs.ScsReads.{afterSeen, scsReadOf};
 ghost use Rattle.scs_read.specs.Inner.{Loadable};
-
-// What the first 15 bytes and the number of the first block say.
-pub enum ScsHead {
-    Bad(Refusal),
-    Spectrum(Model),
-}
 
 // The file read into the area. Refused, the machine is blank and the area all zero, whatever its length.
 pub fn read(file: &[u8], area: &mut [u8]) -> Opened
@@ -34,7 +25,7 @@ pub fn read(file: &[u8], area: &mut [u8]) -> Opened
     if area.len() != 131072 {
         return refused_scs(area, Refusal::AreaLength);
     }
-    let head = read_scs_head(file);
+    let head = scs_head::read_scs_head(file);
     match head {
         ScsHead::Bad(why) => return refused_scs(area, why),
         ScsHead::Spectrum(model) => {
@@ -55,46 +46,6 @@ fn refused_scs(area: &mut [u8], why: Refusal) -> Opened
         answer: Answer::Refused(why),
         machine: Machine::blank(),
     }
-}
-
-fn read_scs_head(file: &[u8]) -> ScsHead
-    ensures { λ r. ⌜ r ≡ scsHeadOf (now (file .entry)) ⌝ }
-{
-    if file.len() < 15 {
-        return ScsHead::Bad(Refusal::FileShort);
-    }
-    if has_name(file) {
-        let hardware = file[14];
-        if hardware == 1 {
-            return memory_first(file, Model::K48);
-        }
-        if hardware == 2 {
-            return memory_first(file, Model::K128);
-        }
-        return ScsHead::Bad(Refusal::ScsHeader);
-    }
-    ScsHead::Bad(Refusal::ScsHeader)
-}
-
-// Whether the file begins with "SamSnap!".
-fn has_name(file: &[u8]) -> bool
-    requires { ⌜ 15 ≤ length (now file) ⌝ }
-    ensures { λ r. ⌜ r ≡ same (take 8 (now (file .entry))) samSnap ⌝ }
-{
-    let name = [83u8, 97, 109, 83, 110, 97, 112, 33];
-    check::same(&file[0..8], &name)
-}
-
-fn memory_first(file: &[u8], model: Model) -> ScsHead
-    ensures { λ r. ⌜ r ≡ memoryFirst (now (file .entry)) model ⌝ }
-{
-    if file.len() < 16 {
-        return ScsHead::Bad(Refusal::ScsMemoryNotFirst);
-    }
-    if file[15] == 3 {
-        return ScsHead::Spectrum(model);
-    }
-    ScsHead::Bad(Refusal::ScsMemoryNotFirst)
 }
 
 // The machine and the memory of the blocks that were seen.

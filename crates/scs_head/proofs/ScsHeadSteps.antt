@@ -12,10 +12,10 @@ use Rattle.slices.proofs.Chosen.{same-is}
 use Rattle.pages.specs.declared.Model.{Model}
 use Rattle.pages.specs.declared.Model.the-variants.{K48, K128}
 use Rattle.numbers.specs.declared.Refusal.the-variants.{FileShort, ScsHeader, ScsMemoryNotFirst}
-use Rattle.scs_read.specs.declared.ScsHead.{ScsHead}
-use Rattle.scs_read.specs.declared.ScsHead.the-variants.{Bad, Spectrum}
+use Rattle.scs_head.specs.declared.ScsHead.{ScsHead}
+use Rattle.scs_head.specs.declared.ScsHead.the-variants.{Bad, Spectrum}
 use Rattle.scs_blocks.specs.ScsIdentity.{samSnap}
-use Rattle.scs_read.specs.ScsHeads.{memoryFirst, scsHeadOf}
+use Rattle.scs_head.specs.ScsHeads.{memoryFirst, scsHeadOf}
 
 pub name-is : (s : List ℕ) (r : Bool) → (r ≡ true → take 8 s ≡ samSnap) × (take 8 s ≡ samSnap → r ≡ true) → r ≡ same (take 8 s) samSnap
 name-is s r p = same-is (take 8 s) samSnap r (p .0) (p .1)

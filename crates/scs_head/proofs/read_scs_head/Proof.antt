@@ -1,7 +1,7 @@
-use Rattle.scs_read.proofs.ScsHeadSteps.{scs-head-short, head-unnamed, head-48, head-128, head-other}
+use Rattle.scs_head.proofs.ScsHeadSteps.{scs-head-short, head-unnamed, head-48, head-128, head-other}
 use borrow.Author.Needs.{needs}
-use Rattle.scs_read.proofs.read_scs_head.Statement.{statement}
-use Rattle.scs_read.proofs.read_scs_head.Tie as tie
+use Rattle.scs_head.proofs.read_scs_head.Statement.{statement}
+use Rattle.scs_head.proofs.read_scs_head.Tie as tie
 
 returns : tie.Need-returns
 returns c = search scs-head-short

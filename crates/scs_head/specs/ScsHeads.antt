@@ -10,8 +10,8 @@ use Rattle.pages.specs.declared.Model.{Model}
 use Rattle.pages.specs.declared.Model.the-variants.{K48, K128}
 use Rattle.numbers.specs.declared.Refusal.the-variants.{FileShort, ScsHeader, ScsMemoryNotFirst}
 use Rattle.scs_blocks.specs.ScsIdentity.{samSnap, hardwareOf}
-use Rattle.scs_read.specs.declared.ScsHead.{ScsHead}
-use Rattle.scs_read.specs.declared.ScsHead.the-variants.{Bad, Spectrum}
+use Rattle.scs_head.specs.declared.ScsHead.{ScsHead}
+use Rattle.scs_head.specs.declared.ScsHead.the-variants.{Bad, Spectrum}
 
 -- "43 if byte 15 is absent or not 3": an absent byte is 0 here
 abbrev pub memoryFirst : List ℕ → Model → ScsHead

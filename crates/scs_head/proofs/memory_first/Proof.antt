@@ -1,7 +1,7 @@
-use Rattle.scs_read.proofs.ScsHeadSteps.{no-first, first-memory, first-other}
+use Rattle.scs_head.proofs.ScsHeadSteps.{no-first, first-memory, first-other}
 use borrow.Author.Needs.{needs}
-use Rattle.scs_read.proofs.memory_first.Statement.{statement}
-use Rattle.scs_read.proofs.memory_first.Tie as tie
+use Rattle.scs_head.proofs.memory_first.Statement.{statement}
+use Rattle.scs_head.proofs.memory_first.Tie as tie
 
 returns : tie.Need-returns
 returns c = search no-first

@@ -1,7 +1,7 @@
-use Rattle.scs_read.proofs.ScsHeadSteps.{name-is}
+use Rattle.scs_head.proofs.ScsHeadSteps.{name-is}
 use borrow.Author.Needs.{needs}
-use Rattle.scs_read.proofs.has_name.Statement.{statement}
-use Rattle.scs_read.proofs.has_name.Tie as tie
+use Rattle.scs_head.proofs.has_name.Statement.{statement}
+use Rattle.scs_head.proofs.has_name.Tie as tie
 
 sub-same : tie.Need-sub-same
 sub-same c = search needs
