@@ -12,21 +12,25 @@ use Rattle.numbers.specs.declared.Answer.the-variants.{Accepted}
 use Rattle.numbers.proofs.Numbers.{number-0}
 use Rattle.header_canonical.specs.declared.DecodedHeader.{DecodedHeader}
 use Rattle.header_canonical.specs.Canonical.{decodedOf, badHeader}
-use Rattle.z80read.specs.Read.{readOf}
+use Rattle.z80read.specs.Read.{ReadResult, readOf}
 use Rattle.z80write.specs.Written.{writtenOf}
+use Rattle.file_bytes.proofs.FileSteps.{readThrough}
 use Rattle.file_bytes.specs.Files.{ReadBytes, readInBytes, readOfBytes, writtenInBytes, writeDecoded, writeOfBytes}
 
 -- a read whose number is 0 was accepted, by value
-pub read-0 : (file : List ℕ) (n k : ℕ) → readOfBytes file n k .answer ≡ 0 → (readOf file n .answer ≡ Accepted) × (readOfBytes file n k ≡ readInBytes (readOf file n))
-unfolding readOfBytes
-read-0 file n k = go (eqb k 86)
+pub through-0 : (o : ReadResult) (n k : ℕ) → readThrough o n k .answer ≡ 0 → (o .answer ≡ Accepted) × (readThrough o n k ≡ readInBytes o)
+through-0 o n k = go (eqb k 86)
   where
-    o : Bool → ReadBytes
-    o t = choose t (readInBytes (readOf file n)) (record { answer = badHeader; area = replicate n 0; header = replicate k 0 })
+    z : Bool → ReadBytes
+    z t = choose t (readInBytes o) (record { answer = badHeader; area = replicate n 0; header = replicate k 0 })
 
-    go : (t : Bool) → o t .answer ≡ 0 → (readOf file n .answer ≡ Accepted) × (o t ≡ readInBytes (readOf file n))
+    go : (t : Bool) → z t .answer ≡ 0 → (o .answer ≡ Accepted) × (z t ≡ readInBytes o)
     go true e = (number-0 _ e, refl)
     go false e = absurd (omega arith)
+
+pub read-0 : (file : List ℕ) (n k : ℕ) → readOfBytes file n k .answer ≡ 0 → (readOf file n .answer ≡ Accepted) × (readOfBytes file n k ≡ readInBytes (readOf file n))
+unfolding readOfBytes
+read-0 file n k e = through-0 (readOf file n) n k e
 
 -- the write of a header that is taken as m
 pub write-decoded-as : (m : Machine) (head area : List ℕ) (n : ℕ) → decodedOf head ≡ record { canonical = true; machine = m }

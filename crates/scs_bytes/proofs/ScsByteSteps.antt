@@ -1,11 +1,9 @@
 -- Reading and writing SCS files over bytes, at each return of the code.
 use Prim.Native.Nat.{ℕ}
-use native.Mathlib.Omega.{arith}
-use mathlib.Core.Path.{_≡_, ap, _∙_}
+use mathlib.Core.Path.{_≡_}
 use mathlib.Core.Bool.{true, false}
-use mathlib.Core.List.{List, _++_, append-nil}
-use lib.ListN.{length, drop, replicate, drop-of-length-le}
-use borrow.Author.Tests.{eq-eqb, ne-eqb}
+use mathlib.Core.List.{List, _++_}
+use lib.ListN.{length, drop, replicate}
 use Rattle.numbers.specs.declared.Answer.the-variants.{Refused}
 use Rattle.numbers.specs.declared.Refusal.the-variants.{InvalidMachine}
 use Rattle.numbers.specs.Numbers.{numberOf}
@@ -17,34 +15,29 @@ use Rattle.z80read.specs.Read.{Reads}
 use Rattle.z80write.specs.declared.Written.{Written}
 use Rattle.z80write.specs.Written.{Writes}
 use Rattle.file_bytes.specs.Files.{ReadsBytes, WritesBytes}
+use Rattle.file_bytes.proofs.FileSteps.{through-other, through-86, through-taken, through-none}
 use Rattle.scs_read.specs.ScsReads.{scsReadOf}
 use Rattle.scs_write.specs.ScsWritten.{scsWrittenOf}
 use Rattle.scs_bytes.specs.ScsBytes.{scsReadOfBytes, scsWriteOfBytes}
 
 module _ (file before head : List ℕ) (r : ℕ) where
-  pub scs-read-other : (area zeros : List ℕ) → (length head ≡ 86 → ⊥) → area ≡ replicate (length before) 0 → zeros ≡ replicate (length head) 0 → r ≡ numberOf (Refused InvalidMachine)
-      → ReadsBytes (scsReadOfBytes file (length before) (length head)) r area zeros
+  pub scs-read-other : (area zeros : List ℕ) → (length head ≡ 86 → ⊥) → area ≡ replicate (length before) 0 → zeros ≡ replicate (length head) 0
+      → r ≡ numberOf (Refused InvalidMachine) → ReadsBytes (scsReadOfBytes file (length before) (length head)) r area zeros
   unfolding scsReadOfBytes
-  scs-read-other area zeros h a z e = rw (ne-eqb (length head) 86 h) (record { answer = e; area = a; header = z })
+  scs-read-other area zeros h a z e = through-other (scsReadOf file (length before)) before head r area zeros h a z e
 
-  pub scs-read-86 : (area made : List ℕ) (o : Opened) → length head ≡ 86 → Reads (scsReadOf file (length before)) o area → made ≡ headerOf (o .machine) ++ drop 86 head
-      → r ≡ numberOf (o .answer) → ReadsBytes (scsReadOfBytes file (length before) (length head)) r area made
+  pub scs-read-86 : (area made : List ℕ) (x : Opened) → length head ≡ 86 → Reads (scsReadOf file (length before)) x area → made ≡ headerOf (x .machine) ++ drop 86 head
+      → r ≡ numberOf (x .answer) → ReadsBytes (scsReadOfBytes file (length before) (length head)) r area made
   unfolding scsReadOfBytes
-  scs-read-86 area made o h p q e =
-      rw (eq-eqb (length head) 86 h)
-      (record {
-        answer = e ∙ ap numberOf (p .leaves .answer);
-        area = p .leaves .memory;
-        header = q ∙ ap (λ (l : List ℕ). headerOf (o .machine) ++ l) (drop-of-length-le head {i = 86} (omega arith)) ∙ append-nil (headerOf (o .machine)) ∙ ap headerOf (p .leaves .machine);
-      })
+  scs-read-86 area made x h p q e = through-86 (scsReadOf file (length before)) before head r area made x h p q e
 
 module _ (head area before : List ℕ) (r size : ℕ) (out : List ℕ) (t : DecodedHeader) (et : t ≡ decodedOf head) where
   pub scs-write-taken : (w : Written) → t .canonical ≡ true → Writes (scsWrittenOf (t .machine) area (length before)) w out → size ≡ w .length → r ≡ numberOf (w .answer)
       → WritesBytes (scsWriteOfBytes head area (length before)) r size out
   unfolding scsWriteOfBytes
-  scs-write-taken w c g s e = rw (← et, c) (record { answer = e ∙ ap numberOf (g .answer); size = s ∙ g .size; out = g .memory })
+  scs-write-taken w c g s e = rw (← et) (through-taken (scsWrittenOf (t .machine) area (length before)) t (length before) r size out w c g s e)
 
   pub scs-write-other : t .canonical ≡ false → out ≡ replicate (length before) 0 → size ≡ 0 → r ≡ numberOf (Refused InvalidMachine)
       → WritesBytes (scsWriteOfBytes head area (length before)) r size out
   unfolding scsWriteOfBytes
-  scs-write-other c z s e = rw (← et, c) (record { answer = e; size = s; out = z })
+  scs-write-other c z s e = rw (← et) (through-none (scsWrittenOf (t .machine) area (length before)) t (length before) r size out c z s e)
