@@ -1,4 +1,4 @@
+pub mod ScsLeast
 mod ScsParts
 pub mod ScsSoFar
-pub mod ScsInside
 pub mod ScsFilled

@@ -1,3 +1,2 @@
 pub mod ScsIdentity
 pub mod ScsBlocks
-pub mod Inner

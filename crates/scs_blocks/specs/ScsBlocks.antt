@@ -63,6 +63,6 @@ abbrev pub dataOf : List ℕ → ScsPart → List ℕ
 dataOf s Absent = []
 dataOf s (Stands from size) = take size (drop from s)
 
--- "Short blocks are zeroFilled with zeros, the rest of long ones is skipped": the n bytes that are due
+-- "Short blocks are filled with zeros, the rest of long ones is skipped": the n bytes that are due
 unfoldable pub zeroFilled : ℕ → List ℕ → List ℕ
 zeroFilled n xs = take n xs ++ replicate (n - length xs) 0

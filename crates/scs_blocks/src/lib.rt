@@ -4,7 +4,7 @@ ghost use Prim.Native.Nat.{_+_, _≤_};
 ghost use mathlib.Core.Path.{_≡_};
 ghost use lib.ListN.{length};
 ghost use Rattle.scs_blocks.specs.declared.ScsPart.the-variants.{Stands};
-ghost use Rattle.scs_blocks.specs.ScsBlocks.{sizeAt, isThere, partOf, noted, scsBlocks, zeroFilled};
+ghost use Rattle.scs_blocks.specs.ScsBlocks.{sizeAt, isThere, partOf, noted, threeSeen, scsBlocks, dataOf, zeroFilled};
 
 // Where the data of a block stand.
 pub enum ScsPart {
@@ -67,12 +67,39 @@ fn size_at(s: &[u8], i: usize) -> usize
         + 16777216 * slices::wide(s[i + 3])
 }
 
-pub fn is_there(part: ScsPart) -> bool
+fn is_there(part: ScsPart) -> bool
     ensures { λ r. ⌜ r ≡ isThere part ⌝ }
 {
     match part {
         ScsPart::Absent => false,
         ScsPart::Stands { from: _, size: _ } => true,
+    }
+}
+
+// Whether all three blocks were seen.
+pub fn saw_all(seen: ScsSeen) -> bool
+    ensures { λ r. ⌜ r ≡ threeSeen seen ⌝ }
+{
+    let cpu = seen.cpu;
+    let ports = seen.ports;
+    let memory = seen.memory;
+    slices::and(
+        is_there(cpu),
+        slices::and(is_there(ports), is_there(memory)),
+    )
+}
+
+// The data of a block, as a part of the file; an empty part where there is no such block.
+pub fn data_of<'a>(file: &'a [u8], part: ScsPart) -> &'a [u8]
+    ensures { λ r. ⌜ now r ≡ dataOf (now (file .entry)) part ⌝ }
+{
+    match part {
+        ScsPart::Absent => return &file[0..0],
+        ScsPart::Stands { from, size } => {
+            let start = slices::least(from, file.len());
+            let end = start + slices::least(size, file.len() - start);
+            return &file[start..end];
+        }
     }
 }
 

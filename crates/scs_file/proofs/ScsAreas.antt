@@ -24,7 +24,7 @@ use Rattle.scs_blocks.proofs.ScsFilled.{filled-long, filled-whole}
 use Rattle.scs_memory.specs.ScsMemory.{memorySize, scsMemory, scsData}
 use Rattle.scs_memory.proofs.ScsLengths.{data-long}
 
--- a 128K machine owns every ramPage
+-- a 128K machine owns every page
 clean-128 : (area : List ℕ) → length area ≡ 131072 → Clean K128 area
 clean-128 area l =
     record {

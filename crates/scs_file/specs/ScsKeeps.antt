@@ -7,7 +7,7 @@ use Rattle.spectrum.specs.declared.Attachment.the-variants.{Nothing}
 use Rattle.header_read.specs.Reading.{noSide}
 
 -- "48K or 128K, registers, IFFs, interrupt mode, border, the last OUT to 7FFD and sound come back, and of the last OUT to FFFD the low four
--- bits": blocks-kept are all fields that name the machine's own; the others are reset, "as from v1 with bits 2-7 of byte 29 zero"
+-- bits": kept are all fields that name the machine's own; the others are reset, "as from v1 with bits 2-7 of byte 29 zero"
 unfoldable pub scsKeeps : Machine → Machine
 scsKeeps m =
     record {

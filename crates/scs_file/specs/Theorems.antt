@@ -30,5 +30,5 @@ pub record Theorems : Type 0 where
       → scsReadOf (scsFileOf (scsReadOf s n .machine) (scsReadOf s n .memory)) 131072 ≡ scsReadOf s n
   -- the blocks of a valid machine give back what SCS keeps of it
   pub machine-kept : (m : Machine) → Typed m → validOf m ≡ true → scsMachine (m .model) (scsCpu m) (scsPorts m) ≡ scsKeeps m
-  -- SCS keeps all that SCS reads
+  -- of a machine that two blocks give, SCS keeps all
   pub keeps-read : (model : Model) (cpu ports : List ℕ) → scsKeeps (scsMachine model cpu ports) ≡ scsMachine model cpu ports

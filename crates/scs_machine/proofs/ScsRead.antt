@@ -24,7 +24,7 @@ unfolding validOf scsMachine scsSwitches
 scs-valid K48 cpu ports = tests (at cpu 26) (at ports 0)
 scs-valid K128 cpu ports = tests (at cpu 26) (at ports 0)
 
--- a list of scs-words
+-- a list of words
 record AllWords (l : List ℕ) : Type 0 where
   small : (k : ℕ) → getD l k 0 < 65536
 

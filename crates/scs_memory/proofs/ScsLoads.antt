@@ -2,12 +2,9 @@
 use Prim.Native.Nat.{ℕ, _+_, _-_, _≤_, min}
 use native.Mathlib.Omega.{arith}
 use mathlib.Core.Path.{_≡_, refl, sym, ap, _∙_}
-use mathlib.Core.Bool.{Bool, true, false}
 use mathlib.Core.List.{List, [], _++_, append-assoc, append-nil}
 use lib.ListN.{length, take, drop, replicate, length-append, length-take, length-drop, length-replicate, replicate-append-replicate, drop-of-length-le}
 use lib.Seq.{take-all, take-at, drop-at, drop-drop}
-use lib.Dec.{ltb}
-use borrow.Author.Tests.{ltb-true, ltb-false}
 use borrow.Rule.Slice.PartMut.{putMid, midOf}
 use Rattle.slices.specs.Put.{put}
 use Rattle.slices.specs.Blank.{blank}
@@ -16,6 +13,7 @@ use Rattle.pages.specs.declared.Model.{Model}
 use Rattle.pages.specs.declared.Model.the-variants.{K48, K128}
 use Rattle.body_v1.specs.Body.{spread}
 use Rattle.scs_blocks.specs.ScsBlocks.{zeroFilled}
+use Rattle.scs_blocks.proofs.ScsLeast.{drop-least}
 use Rattle.scs_blocks.proofs.ScsFilled.{filled-long, filled-part}
 use Rattle.scs_memory.specs.ScsMemory.{scsMemory}
 
@@ -35,16 +33,7 @@ part-cleared d l from to h k e =
 
 -- the data from a place on; past their end there are none
 data-from : (src : List ℕ) (k from : ℕ) → from ≡ min k (length src) → take (length src - from) (drop from src) ≡ drop k src
-data-from src k from e = take-all (length src - from) (drop from src) (simp length-drop (omega arith)) ∙ go (ltb (length src) k) refl
-  where
-    go : (b : Bool) → ltb (length src) k ≡ b → drop from src ≡ drop k src
-    go true q =
-        let h = ltb-true (length src) k q in
-        drop-of-length-le src {i = from} (omega arith) ∙ sym (drop-of-length-le src {i = k} (omega arith))
-    go false q =
-        let h = ltb-false (length src) k q in
-        let j : from ≡ k = omega arith in
-        ap (λ (n : ℕ). drop n src) j
+data-from src k from e = take-all (length src - from) (drop from src) (simp length-drop (omega arith)) ∙ drop-least src k from e
 
 pub page-loaded : (src d l : List ℕ) (k from base : ℕ) → from ≡ min k (length src) → base + 16384 ≤ length d
     → l ≡ zeroFilled (length (midOf base (base + 16384 - base) d)) (take (length src - from) (drop from src))

@@ -20,14 +20,12 @@ use Rattle.scs_blocks.specs.declared.ScsSeen.{ScsSeen}
 use Rattle.scs_blocks.specs.declared.ScsFound.{ScsFound}
 use Rattle.scs_blocks.specs.declared.ScsFound.the-variants.{Bad, Blocks}
 use Rattle.scs_blocks.specs.ScsBlocks.{threeSeen, scsBlocks, dataOf, zeroFilled}
-use Rattle.scs_blocks.proofs.ScsInside.{blocks-inside}
 use Rattle.scs_machine.specs.ScsMachine.{scsMode, scsMachine}
 use Rattle.scs_machine.proofs.ScsRead.{scs-valid}
 use Rattle.scs_head.specs.declared.ScsHead.{ScsHead}
 use Rattle.scs_head.specs.declared.ScsHead.the-variants.{Spectrum}
 use Rattle.scs_head.specs.ScsHeads.{scsHeadOf}
 use Rattle.scs_read.specs.ScsReads.{scsLoaded, afterSeen, afterFound, afterScsHead, scsReadOf}
-use Rattle.scs_read.specs.Inner.{Loadable}
 
 -- a refusal is not accepted, so nothing is said of its machine
 refused-reads : (o : ReadResult) (why : Refusal) (n : ℕ) (r : Opened) (area : List ℕ) → refusedRead why n ≡ o → ReadLeaves (refusedRead why n) r area → Reads o r area
@@ -41,9 +39,6 @@ loaded-valid seen model s n =
     either P (threeSeen seen) _ _
     (λ t. either P (eqb (scsMode cpu) 3) _ _ (λ e a. absurd (refused-not _ a)) (λ e a. scs-valid model cpu (zeroFilled 19 (dataOf s (seen .ports))) (eqb-false _ _ e)))
     (λ t a. absurd (refused-not _ a))
-
-pub scs-loadable : (s area : List ℕ) (found : ScsFound) (seen : ScsSeen) → found ≡ scsBlocks s 15 → found ≡ Blocks seen → length area ≡ 131072 → Loadable s seen area
-scs-loadable s area found seen ef e h = record { inside = blocks-inside s 15 found seen ef e; whole = h }
 
 module _ (s area : List ℕ) (r : Opened) (after : List ℕ) where
   pub scs-length : (length area ≡ 131072 → ⊥) → ReadLeaves (refusedRead AreaLength (length area)) r after → Reads (scsReadOf s (length area)) r after

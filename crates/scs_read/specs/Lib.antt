@@ -1,2 +1,1 @@
 pub mod ScsReads
-pub mod Inner

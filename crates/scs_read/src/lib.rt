@@ -12,11 +12,8 @@ use z80read::Opened;
 ghost use mathlib.Core.Path.{_≡_};
 ghost use lib.ListN.{length};
 ghost use Rattle.z80read.specs.Read.{refusedRead, ReadLeaves, Reads};
-ghost use Rattle.scs_blocks.specs.ScsBlocks.{threeSeen, dataOf, zeroFilled};
-ghost use Rattle.scs_blocks.specs.Inner.{PartInside};
-ghost use Rattle.scs_memory.specs.ScsMemory.{scsMemory};
+ghost use Rattle.scs_blocks.specs.ScsBlocks.{dataOf, zeroFilled};
 ghost use Rattle.scs_read.specs.ScsReads.{afterSeen, scsReadOf};
-ghost use Rattle.scs_read.specs.Inner.{Loadable};
 
 // The file read into the area. Refused, the machine is blank and the area all zero, whatever its length.
 pub fn read(file: &[u8], area: &mut [u8]) -> Opened
@@ -50,19 +47,19 @@ fn refused_scs(area: &mut [u8], why: Refusal) -> Opened
 
 // The machine and the memory of the blocks that were seen.
 fn load(file: &[u8], model: Model, seen: ScsSeen, area: &mut [u8]) -> Opened
-    requires { ⌜ Loadable (now file) seen (now area) ⌝ }
+    requires { ⌜ length (now area) ≡ 131072 ⌝ }
     ensures { λ r. ⌜ ReadLeaves (afterSeen seen model (now (file .entry)) (length (now (area .entry)))) r (now (area .exit)) ⌝ }
 {
     let cpu_part = seen.cpu;
     let ports_part = seen.ports;
     let memory_part = seen.memory;
-    if saw_all(seen) {
+    if scs_blocks::saw_all(seen) {
         let cpu = cpu_of(file, cpu_part);
         if cpu[26] % 4 == 3 {
             return refused_scs(area, Refusal::InterruptMode);
         }
         let ports = ports_of(file, ports_part);
-        load_part(file, memory_part, model, area);
+        scs_memory::load_memory(scs_blocks::data_of(file, memory_part), model, area);
         let machine = scs_machine::machine_from(model, cpu, ports);
         return Opened {
             answer: Answer::Accepted,
@@ -72,59 +69,18 @@ fn load(file: &[u8], model: Model, seen: ScsSeen, area: &mut [u8]) -> Opened
     refused_scs(area, Refusal::ScsBlockMissing)
 }
 
-fn saw_all(seen: ScsSeen) -> bool
-    ensures { λ r. ⌜ r ≡ threeSeen seen ⌝ }
-{
-    let cpu = seen.cpu;
-    let ports = seen.ports;
-    let memory = seen.memory;
-    slices::and(
-        scs_blocks::is_there(cpu),
-        slices::and(scs_blocks::is_there(ports), scs_blocks::is_there(memory)),
-    )
-}
-
 fn cpu_of(file: &[u8], part: ScsPart) -> [u8; 34]
-    requires { ⌜ PartInside (length (now file)) part ⌝ }
     ensures { λ r. ⌜ r ≡ zeroFilled 34 (dataOf (now (file .entry)) part) ⌝ }
 {
     let mut cpu = [0u8; 34];
-    fill_part(file, part, &mut cpu);
+    scs_blocks::fill_from(scs_blocks::data_of(file, part), &mut cpu);
     cpu
 }
 
 fn ports_of(file: &[u8], part: ScsPart) -> [u8; 19]
-    requires { ⌜ PartInside (length (now file)) part ⌝ }
     ensures { λ r. ⌜ r ≡ zeroFilled 19 (dataOf (now (file .entry)) part) ⌝ }
 {
     let mut ports = [0u8; 19];
-    fill_part(file, part, &mut ports);
+    scs_blocks::fill_from(scs_blocks::data_of(file, part), &mut ports);
     ports
-}
-
-// What is due of a block's data.
-fn fill_part(file: &[u8], part: ScsPart, dst: &mut [u8])
-    requires { ⌜ PartInside (length (now file)) part ⌝ }
-    ensures { λ _. ⌜ now (dst .exit) ≡ zeroFilled (length (now (dst .entry))) (dataOf (now (file .entry)) part) ⌝ }
-{
-    match part {
-        ScsPart::Absent => slices::fill(dst, 0),
-        ScsPart::Stands { from, size } => {
-            let end = from + size;
-            scs_blocks::fill_from(&file[from..end], dst);
-        }
-    }
-}
-
-fn load_part(file: &[u8], part: ScsPart, model: Model, area: &mut [u8])
-    requires { ⌜ (PartInside (length (now file)) part) × (length (now area) ≡ 131072) ⌝ }
-    ensures { λ _. ⌜ now (area .exit) ≡ scsMemory model (dataOf (now (file .entry)) part) ⌝ }
-{
-    match part {
-        ScsPart::Absent => scs_memory::load_memory(&file[0..0], model, area),
-        ScsPart::Stands { from, size } => {
-            let end = from + size;
-            scs_memory::load_memory(&file[from..end], model, area);
-        }
-    }
 }

@@ -49,17 +49,17 @@ module _ (m : Machine) (area : List ℕ) (t : Typed m) (l : length area ≡ 1310
   pub scs-file-128k : m .model ≡ K128 → length (scsFileOf m area) ≡ 131160
   scs-file-128k e = scs-file-long ∙ rw e
 
-  pub file-laid : (d f o₁ o₂ o₃ o₄ o₅ : List ℕ) (n : ℕ) → 88 + memorySize (m .model) ≤ length d → n ≡ memorySize (m .model) → f ≡ frontOf (m .model) → o₁ ≡ put d 0 f
+  pub file-laid : (d o₁ o₂ o₃ o₄ o₅ : List ℕ) (n : ℕ) → 88 + memorySize (m .model) ≤ length d → n ≡ memorySize (m .model) → o₁ ≡ put d 0 (frontOf (m .model))
       → o₂ ≡ put o₁ 20 (scsData (m .model) area) → o₃ ≡ put o₂ (20 + n) (scsBlock 1 (scsCpu m)) → o₄ ≡ put o₃ (20 + n + 39) (scsBlock 2 (scsPorts m))
       → o₅ ≡ take (20 + n + 63) o₄ ++ replicate (length o₄ - (20 + n + 63)) 0 → o₅ ≡ scsFileOf m area ++ replicate (length d - length (scsFileOf m area)) 0
-  file-laid d f o₁ o₂ o₃ o₄ o₅ n h en ef e₁ e₂ e₃ e₄ e₅ =
+  file-laid d o₁ o₂ o₃ o₄ o₅ n h en e₁ e₂ e₃ e₄ e₅ =
       let c = scsBlock 1 (scsCpu m) in
       let p = scsBlock 2 (scsPorts m) in
       let g = scsData (m .model) area in
-      let lf : length f ≡ 20 = ap length ef in
+      let f = frontOf (m .model) in
       let lg : length g ≡ n = data-long (m .model) area l ∙ sym en in
       let lo : 88 + n ≡ length (scsFileOf m area) = sym (scs-file-long ∙ ap (λ (k : ℕ). 88 + k) (sym en)) in
       e₅
-      ∙ rows d f g c p n lf lg cpu-block ports-block (omega arith) o₄ (rw (e₄, e₃, e₂, e₁))
-      ∙ (λ i. (ef i ++ (g ++ (c ++ (p ++ replicate 5 0)))) ++ replicate (length d - lo i) 0)
+      ∙ rows d f g c p n refl lg cpu-block ports-block (omega arith) o₄ (rw (e₄, e₃, e₂, e₁))
+      ∙ (λ i. (f ++ (g ++ (c ++ (p ++ replicate 5 0)))) ++ replicate (length d - lo i) 0)
       ∙ ap (λ (x : List ℕ). x ++ replicate (length d - length (scsFileOf m area)) 0) (sym (file-is m area l))

@@ -7,10 +7,18 @@ use lib.ListN.{length, take, drop, replicate, length-append, replicate-append-re
 use lib.Seq.{take-at}
 use Rattle.slices.specs.Put.{put}
 use Rattle.slices.proofs.Puts.{put-put, put-zero, length-put}
+use Rattle.pages.specs.declared.Model.{Model}
 use Rattle.spectrum.specs.declared.Machine.{Machine}
 use Rattle.spectrum.specs.Valid.{Typed}
+use Rattle.scs_blocks.specs.ScsIdentity.{samSnap, hardwareOf}
 use Rattle.scs_pieces.specs.ScsPieces.{highFirstPairs, lowFirstPairs, cpuSettings, scsCpu, portsFront, scsPorts}
-use Rattle.scs_write.specs.ScsWritten.{sizeBytes, scsBlock}
+use Rattle.scs_memory.specs.ScsMemory.{memorySize}
+use Rattle.scs_write.specs.ScsWritten.{scsHeader, sizeBytes, scsBlock}
+
+-- the name, the emulator and its version, then the hardware, and the head of the Memory block
+pub front-put : (model : Model) (d o₁ o₂ a : List ℕ) → 20 ≤ length d → o₁ ≡ put d 0 (samSnap ++ (0x41 ∷ 0x53 ∷ 0x43 ∷ 0x44 ∷ 0 ∷ 98 ∷ []))
+    → a ≡ hardwareOf model ∷ 3 ∷ sizeBytes (memorySize model) → o₂ ≡ put o₁ 14 a → o₂ ≡ put d 0 (scsHeader model ++ (3 ∷ sizeBytes (memorySize model)))
+front-put model d o₁ o₂ a l e₁ ea e₂ = rw (e₂, e₁, ea) (put-put d _ _ 0 14 refl (omega arith))
 
 four-puts : (d h a b c : List ℕ) (place : ℕ) → length h ≡ 5 → length a ≡ 16 → length b ≡ 8 → place + 39 ≤ length d
     → put (put (put (put d place h) (place + 5) a) (place + 21) b) (place + 29) c ≡ put d place (h ++ (a ++ (b ++ c)))

@@ -11,6 +11,7 @@ ghost use lib.ListN.{length, replicate};
 ghost use Rattle.slices.specs.Put.{put};
 ghost use Rattle.z80write.specs.Written.{refusedWrite, Writes};
 ghost use Rattle.scs_pieces.specs.ScsPieces.{scsCpu, scsPorts};
+ghost use Rattle.scs_blocks.specs.ScsIdentity.{hardwareOf};
 ghost use Rattle.scs_memory.specs.ScsMemory.{memorySize};
 ghost use Rattle.scs_write.specs.ScsWritten.{scsHeader, sizeBytes, scsBlock, scsFileOf, scsWrittenOf};
 
@@ -64,7 +65,7 @@ fn lay_file(m: Machine, area: &[u8], out: &mut [u8])
     m.typed();
     let model = m.model;
     let end = 20 + size_of_memory(model);
-    slices::put_at(out, 0, &file_front(model));
+    put_front(model, out);
     scs_memory::store_memory(area, model, out, 20);
     put_cpu(m, out, end);
     put_ports(m, out, end + 39);
@@ -72,54 +73,20 @@ fn lay_file(m: Machine, area: &[u8], out: &mut [u8])
 }
 
 // The header, and the head of the Memory block.
-fn file_front(model: Model) -> [u8; 20]
-    ensures { λ r. ⌜ r ≡ scsHeader model ++ (3 ∷ sizeBytes (memorySize model)) ⌝ }
+fn put_front(model: Model, out: &mut [u8])
+    requires { ⌜ 20 ≤ length (now out) ⌝ }
+    ensures { λ _. ⌜ now (out .exit) ≡ put (now (out .entry)) 0 (scsHeader model ++ (3 ∷ sizeBytes (memorySize model))) ⌝ }
+{
+    slices::put_at(out, 0, b"SamSnap!ASCD\x00b");
+    slices::put_at(out, 14, &hardware_and_size(model));
+}
+
+fn hardware_and_size(model: Model) -> [u8; 6]
+    ensures { λ r. ⌜ r ≡ hardwareOf model ∷ 3 ∷ sizeBytes (memorySize model) ⌝ }
 {
     match model {
-        Model::K48 => [
-            83,
-            97,
-            109,
-            83,
-            110,
-            97,
-            112,
-            33,
-            65,
-            83,
-            67,
-            68,
-            0,
-            98,
-            1,
-            3,
-            0,
-            192,
-            0,
-            0,
-        ],
-        Model::K128 => [
-            83,
-            97,
-            109,
-            83,
-            110,
-            97,
-            112,
-            33,
-            65,
-            83,
-            67,
-            68,
-            0,
-            98,
-            2,
-            3,
-            0,
-            0,
-            2,
-            0,
-        ],
+        Model::K48 => [1, 3, 0, 192, 0, 0],
+        Model::K128 => [2, 3, 0, 0, 2, 0],
     }
 }
 

@@ -24,8 +24,11 @@ returns c = search loads-mode
 ports-of-requires : tie.Need-ports-of-requires
 ports-of-requires c κs = search needs
 
-load-part-requires : tie.Need-load-part-requires
-load-part-requires c κs = search needs
+data-of-requires : tie.Need-data-of-requires
+data-of-requires c κs = search needs
+
+load-memory-requires : tie.Need-load-memory-requires
+load-memory-requires c κs = search needs
 
 machine-from-requires : tie.Need-machine-from-requires
 machine-from-requires c κs = search needs
@@ -56,7 +59,8 @@ load-spec =
     same-length
     returns
     ports-of-requires
-    load-part-requires
+    data-of-requires
+    load-memory-requires
     machine-from-requires
     same-length-2
     returns-2

@@ -1,4 +1,4 @@
-use Rattle.scs_read.proofs.ScsReadSteps.{scs-length, scs-head-refused, scs-blocks-refused, scs-loadable, scs-read}
+use Rattle.scs_read.proofs.ScsReadSteps.{scs-length, scs-head-refused, scs-blocks-refused, scs-read}
 use borrow.Author.Needs.{needs}
 use Rattle.scs_read.proofs.read.Statement.{statement}
 use Rattle.scs_read.proofs.read.Tie as tie
@@ -49,7 +49,7 @@ enum-known-found-2 : tie.Need-enum-known-found-2
 enum-known-found-2 c = search needs
 
 load-requires : tie.Need-load-requires
-load-requires c κs = search scs-loadable
+load-requires c κs = search needs
 
 same-length-4 : tie.Need-same-length-4
 same-length-4 c = search needs

@@ -12,14 +12,8 @@ size-of-memory-requires c κs = search needs
 add-end : tie.Need-add-end
 add-end c = search needs
 
-file-front-requires : tie.Need-file-front-requires
-file-front-requires c κs = search needs
-
-slice-aggregate-put-at : tie.Need-slice-aggregate-put-at
-slice-aggregate-put-at c = search needs
-
-put-at-requires : tie.Need-put-at-requires
-put-at-requires c κs = search needs
+put-front-requires : tie.Need-put-front-requires
+put-front-requires c κs = search needs
 
 store-memory-requires : tie.Need-store-memory-requires
 store-memory-requires c κs = search needs
@@ -43,10 +37,10 @@ same-length : tie.Need-same-length
 same-length c = search needs
 
 returns : tie.Need-returns
-returns c =
-    let start = c .before .before .before .before .before .before .before .before .before .before .before .before .before .before .before .before .before .before .before .before .before .before .before .before .before .before in
-    file-laid _ _ (c .before .before .before .before .before .before .before .before .before .before .before .before .before .before .before .before .before .before .before .before .before .before .before .typed .ensures) (start .pre .0) _ _ _ _ _ _ _ _ (start .pre .1) (c .before .before .before .before .before .before .before .before .before .before .before .before .before .before .before .before .before .before .before .before .before .before .size-of-memory .ensures) (c .before .before .before .before .before .before .before .before .before .before .before .before .before .before .before .before .before .before .before .before .file-front .ensures)
-    (c .before .before .before .before .before .before .before .before .before .before .before .before .before .before .before .before .before .before .put-at .ensures) (c .before .before .before .before .before .before .before .before .before .before .before .before .before .before .store-memory .ensures) (c .before .before .before .before .before .before .before .before .before .before .put-cpu .ensures) (c .before .before .before .before .before .before .put-ports .ensures) (c .before .before .clear-from .ensures)
+returns c = 
+    let start = c .before .before .before .before .before .before .before .before .before .before .before .before .before .before .before .before .before .before .before .before .before .before .before .before in
+    file-laid _ _ (c .before .before .before .before .before .before .before .before .before .before .before .before .before .before .before .before .before .before .before .before .before .typed .ensures) (start .pre .0) _ _ _ _ _ _ _ (start .pre .1) (c .before .before .before .before .before .before .before .before .before .before .before .before .before .before .before .before .before .before .before .before .size-of-memory .ensures) (c .before .before .before .before .before .before .before .before .before .before .before .before .before .before .before .before .before .before .put-front .ensures)
+    (c .before .before .before .before .before .before .before .before .before .before .before .before .before .before .store-memory .ensures) (c .before .before .before .before .before .before .before .before .before .before .put-cpu .ensures) (c .before .before .before .before .before .before .put-ports .ensures) (c .before .before .clear-from .ensures)
 
 pub lay-file-spec : {M : Type 1} → statement M
 lay-file-spec =
@@ -55,9 +49,7 @@ lay-file-spec =
     typed-requires
     size-of-memory-requires
     add-end
-    file-front-requires
-    slice-aggregate-put-at
-    put-at-requires
+    put-front-requires
     store-memory-requires
     put-cpu-requires
     add-put-ports

@@ -1,6 +1,6 @@
 use borrow.Author.Needs.{needs}
-use Rattle.scs_write.proofs.file_front.Statement.{statement}
-use Rattle.scs_write.proofs.file_front.Tie as tie
+use Rattle.scs_write.proofs.hardware_and_size.Statement.{statement}
+use Rattle.scs_write.proofs.hardware_and_size.Tie as tie
 
 enum-told : tie.Need-enum-told
 enum-told c = search needs
@@ -14,5 +14,5 @@ returns c = rw (c .enum-told .given .1)
 returns-2 : tie.Need-returns-2
 returns-2 c = rw (c .enum-told2 .given .1)
 
-pub file-front-spec : {M : Type 1} → statement M
-file-front-spec = tie.close (tie.spec enum-told enum-told-2 returns returns-2)
+pub hardware-and-size-spec : {M : Type 1} → statement M
+hardware-and-size-spec = tie.close (tie.spec enum-told enum-told-2 returns returns-2)

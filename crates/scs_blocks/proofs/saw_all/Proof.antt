@@ -1,7 +1,7 @@
-use Rattle.scs_read.proofs.ScsLoadSteps.{seen-all}
+use Rattle.scs_blocks.proofs.ScsParts.{seen-all}
 use borrow.Author.Needs.{needs}
-use Rattle.scs_read.proofs.saw_all.Statement.{statement}
-use Rattle.scs_read.proofs.saw_all.Tie as tie
+use Rattle.scs_blocks.proofs.saw_all.Statement.{statement}
+use Rattle.scs_blocks.proofs.saw_all.Tie as tie
 
 is-there-requires : tie.Need-is-there-requires
 is-there-requires c κs = search needs
