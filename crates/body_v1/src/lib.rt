@@ -24,8 +24,8 @@ fn has_marker(s: &[u8]) -> bool
     check::same(&s[n..], &marker)
 }
 
-// A page of the v1 stream, from place k of it, into its own part of the area.
-fn move_page(body: &[u8], k: usize, area: &mut [u8], base: usize)
+// A page, from place k of a stream of memory, to its place in the area.
+pub fn move_page(body: &[u8], k: usize, area: &mut [u8], base: usize)
     requires { ⌜ (k + 16384 ≤ length (now body)) × (base + 16384 ≤ length (now area)) ⌝ }
     ensures { λ _. ⌜ now (area .exit) ≡ put (now (area .entry)) base (take 16384 (drop k (now (body .entry)))) ⌝ }
 {

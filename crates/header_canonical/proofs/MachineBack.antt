@@ -23,7 +23,7 @@ use Rattle.header_read.specs.Reading.{pairsBefore, pairsOf, videoOf, switchesOf
 use Rattle.header_pieces.specs.Pieces.{videoBits, counterBytes}
 use Rattle.header_write.specs.Writing.{headerOf}
 
-word-back : (n : ℕ) → n < 65536 → n % 256 + 256 * (n / 256 % 256) ≡ n
+pub word-back : (n : ℕ) → n < 65536 → n % 256 + 256 * (n / 256 % 256) ≡ n
 word-back n h = omega arith
 
 -- byte 12 as it is written, with R's bit 7 and the border, is never 255
@@ -97,7 +97,7 @@ silent-back : (k : Model) (l s : List ℕ) → (k ≡ K48 → l ≡ replicate 16
 silent-back K48 l s h e = sym (h refl)
 silent-back K128 l s h e = e
 
-bit37 : (a b : Bool) → (bitAt (bitOf a % 2 + 2 * (bitOf b % 2)) 1 ≡ a) × (bitAt (bitOf a % 2 + 2 * (bitOf b % 2)) 2 ≡ b)
+pub bit37 : (a b : Bool) → (bitAt (bitOf a % 2 + 2 * (bitOf b % 2)) 1 ≡ a) × (bitAt (bitOf a % 2 + 2 * (bitOf b % 2)) 2 ≡ b)
 bit37 true true = (refl, refl)
 bit37 true false = (refl, refl)
 bit37 false true = (refl, refl)

@@ -146,7 +146,7 @@ fn read_side59(s: &[u8], version: Version) -> u8
 }
 
 // The side bytes from 61 on that v1 and v2 give.
-fn no_side() -> [u8; 25]
+pub fn no_side() -> [u8; 25]
     ensures { λ r. ⌜ r ≡ noSide ⌝ }
 {
     [

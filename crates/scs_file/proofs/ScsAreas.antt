@@ -1,5 +1,5 @@
 -- The memory that an SCS file gives is clean, and a clean memory comes back.
-use Prim.Native.Nat.{ℕ, _*_, _/_, _%_, _<_}
+use Prim.Native.Nat.{ℕ, _/_, _<_}
 use native.Mathlib.Omega.{arith}
 use mathlib.Core.Path.{_≡_, refl, sym, ap, _∙_}
 use mathlib.Core.Bool.{Bool, true, false}
@@ -21,7 +21,7 @@ use Rattle.z80file.proofs.CleanAreas.{clean-spread}
 use Rattle.z80file.proofs.PagesOfArea.{page-at, put-long, put-here, put-elsewhere, blank-at, blank-long}
 use Rattle.scs_blocks.specs.ScsBlocks.{zeroFilled}
 use Rattle.scs_blocks.proofs.ScsFilled.{filled-long, filled-whole}
-use Rattle.scs_memory.specs.ScsMemory.{memorySize, scsMemory, scsData}
+use Rattle.scs_memory.specs.ScsMemory.{scsMemory, scsData}
 use Rattle.scs_memory.proofs.ScsLengths.{data-long}
 
 -- a 128K machine owns every page

@@ -14,8 +14,7 @@ use Rattle.numbers.specs.declared.Answer.the-variants.{Accepted}
 use Rattle.spectrum.specs.declared.Machine.{Machine}
 use Rattle.spectrum.specs.Valid.{Typed, validOf}
 use Rattle.spectrum.proofs.Validity.{valid-says}
-use Rattle.z80read.specs.Read.{ReadResult}
-use Rattle.z80write.specs.Written.{WriteResult, acceptedWrite}
+use Rattle.z80write.specs.Written.{WriteResult}
 use Rattle.z80file.specs.Clean.{Clean}
 use Rattle.scs_blocks.specs.declared.ScsPart.the-variants.{Stands}
 use Rattle.scs_blocks.specs.declared.ScsSeen.{ScsSeen}

@@ -3,11 +3,11 @@ use Prim.Native.Nat.{ℕ, zero, suc, _+_, _*_, _%_, _<_}
 use native.Mathlib.Omega.{arith}
 use native.Mathlib.Nat.{mod-mod, mod-eq-of-lt}
 use mathlib.Core.Path.{_≡_, refl, sym}
-use mathlib.Core.Bool.{Bool, true, false}
+use mathlib.Core.Bool.{true, false}
 use mathlib.Core.List.{List, [], _∷_}
 use lib.ListN.{length, getD, drop, replicate, drop-of-length-le}
 use lib.Seq.{drop-cons, take-all}
-use Rattle.slices.specs.Bytes.{lowByte, highByte, bitAt, bitOf}
+use Rattle.slices.specs.Bytes.{lowByte, highByte}
 use Rattle.pages.specs.declared.Model.{Model}
 use Rattle.pages.specs.declared.Model.the-variants.{K48, K128}
 use Rattle.spectrum.specs.declared.Machine.{Machine}
@@ -15,6 +15,7 @@ use Rattle.spectrum.specs.declared.Attachment.the-variants.{Nothing}
 use Rattle.spectrum.specs.Valid.{Typed, Valid, validOf}
 use Rattle.spectrum.proofs.Validity.{valid-says}
 use Rattle.header_read.specs.Reading.{carried, noSide}
+use Rattle.header_canonical.proofs.MachineBack.{word-back, bit37}
 use Rattle.scs_machine.specs.ScsMachine.{scsPairs, scsSwitches, scsSound, scsMachine}
 use Rattle.scs_pieces.specs.ScsPieces.{scsCpu, scsPorts}
 use Rattle.scs_file.specs.ScsKeeps.{scsKeeps}
@@ -24,18 +25,9 @@ abbrev again : ℕ → ℕ → List ℕ → List ℕ
 again zero i l = []
 again (suc n) i l = (lowByte (getD l i 0) + 256 * highByte (getD l i 0)) ∷ again n (suc i) l
 
-both-bytes-back : (w : ℕ) → w < 65536 → lowByte w + 256 * highByte w ≡ w
-both-bytes-back w h = omega arith
-
 words-back : (l : List ℕ) → ((k : ℕ) → getD l k 0 < 65536) → (n i : ℕ) → i + n ≡ length l → again n i l ≡ drop i l
 words-back l h zero i e = sym (drop-of-length-le l {i = i} (omega arith))
-words-back l h (suc n) i e = rw (drop-cons l i 0 (omega arith)) (λ k. both-bytes-back (getD l i 0) (h i) k ∷ words-back l h n (suc i) (omega arith) k)
-
-iffs-back : (a b : Bool) → (bitAt (bitOf a % 2 + 2 * (bitOf b % 2)) 1 ≡ a) × (bitAt (bitOf a % 2 + 2 * (bitOf b % 2)) 2 ≡ b)
-iffs-back true true = (refl, refl)
-iffs-back true false = (refl, refl)
-iffs-back false true = (refl, refl)
-iffs-back false false = (refl, refl)
+words-back l h (suc n) i e = rw (drop-cons l i 0 (omega arith)) (λ k. word-back (getD l i 0) (h i) k ∷ words-back l h n (suc i) (omega arith) k)
 
 scs-carried-back : (k : Model) (b r : ℕ) → (k ≡ K48 → r ≡ 0) → b ≡ r → carried k b ≡ r
 scs-carried-back K48 b r h e = sym (h refl)
@@ -55,7 +47,7 @@ module _ (m : Machine) (t : Typed m) where
     scs-switches-back : scsSwitches (scsCpu m) (scsPorts m) ≡ scsKeeps m .switches
     unfolding scsSwitches scsCpu scsPorts scsKeeps
     scs-switches-back =
-        let iffs = iffs-back (m .switches .iff1) (m .switches .iff2) in
+        let iffs = bit37 (m .switches .iff1) (m .switches .iff2) in
         cc (iffs .0, iffs .1, mod-eq-of-lt {n = m .switches .im} {m = 4} (omega (arith, v .im)), mod-eq-of-lt (v .border))
 
     blocks-kept : scsMachine (m .model) (scsCpu m) (scsPorts m) ≡ scsKeeps m

@@ -4,7 +4,7 @@ use native.Mathlib.Omega.{arith}
 use mathlib.Core.Path.{_≡_, refl, sym, ap, subst, _∙_}
 use mathlib.Core.Bool.{Bool, true, false}
 use mathlib.Core.List.{List}
-use lib.ListN.{length, getD, take, drop, length-take, List·getD-eq-default}
+use lib.ListN.{getD, take, drop, length-take, List·getD-eq-default}
 use lib.Seq.{getD-take, getD-drop}
 use lib.Dec.{eqb, ltb}
 use borrow.Author.Tests.{eqb-true, eqb-false, ltb-true, ltb-false}
@@ -12,13 +12,11 @@ use Rattle.slices.proofs.Chosen.{either}
 use Rattle.pages.specs.declared.Model.{Model}
 use Rattle.numbers.specs.declared.Answer.the-variants.{Accepted}
 use Rattle.numbers.proofs.Numbers.{refused-not}
-use Rattle.spectrum.specs.declared.Machine.{Machine}
-use Rattle.spectrum.specs.Valid.{Typed, validOf}
+use Rattle.spectrum.specs.Valid.{Typed}
 use Rattle.z80read.specs.Read.{ReadResult}
 use Rattle.z80file.specs.Clean.{Clean, ReadGives}
 use Rattle.scs_blocks.specs.declared.ScsPart.{ScsPart}
 use Rattle.scs_blocks.specs.declared.ScsPart.the-variants.{Absent, Stands}
-use Rattle.scs_blocks.specs.declared.ScsSeen.{ScsSeen}
 use Rattle.scs_blocks.specs.declared.ScsFound.{ScsFound}
 use Rattle.scs_blocks.specs.declared.ScsFound.the-variants.{Bad, Blocks}
 use Rattle.scs_blocks.specs.ScsBlocks.{threeSeen, scsBlocks, dataOf, zeroFilled}
@@ -26,7 +24,7 @@ use Rattle.scs_blocks.proofs.ScsFilled.{filled-long, filled-at}
 use Rattle.scs_machine.specs.ScsMachine.{scsMode, scsMachine}
 use Rattle.scs_file.specs.ScsKeeps.{scsKeeps}
 use Rattle.scs_file.proofs.ScsKept.{keeps-read}
-use Rattle.scs_machine.proofs.ScsRead.{scs-valid, scs-typed}
+use Rattle.scs_machine.proofs.ScsValid.{scs-valid, scs-typed}
 use Rattle.scs_memory.specs.ScsMemory.{scsMemory}
 use Rattle.scs_head.specs.declared.ScsHead.{ScsHead}
 use Rattle.scs_head.specs.declared.ScsHead.the-variants.{Spectrum}

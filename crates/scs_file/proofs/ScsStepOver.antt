@@ -1,9 +1,9 @@
 -- The loop over the blocks, at a block that stands whole at a place: it is noted, and the loop goes on behind it.
-use Prim.Native.Nat.{ℕ, _+_, _-_, _*_, _/_, _%_, _<_, _≤_}
+use Prim.Native.Nat.{ℕ, _+_, _-_, _*_, _/_, _%_, _<_}
 use native.Mathlib.Omega.{arith}
 use mathlib.Core.Path.{_≡_, refl, sym, ap, _∙_}
 use mathlib.Core.Bool.{false}
-use mathlib.Core.List.{List, _∷_, _++_}
+use mathlib.Core.List.{List, _++_}
 use lib.ListN.{length, getD, take, drop, length-append, length-drop}
 use lib.Seq.{getD-drop, drop-drop, take-at, drop-at}
 use Rattle.slices.specs.Bytes.{at}
@@ -12,7 +12,7 @@ use Rattle.scs_blocks.specs.declared.ScsSeen.{ScsSeen}
 use Rattle.scs_blocks.specs.declared.ScsFound.{ScsFound}
 use Rattle.scs_blocks.specs.ScsBlocks.{sizeAt, isThere, partOf, noted}
 use Rattle.scs_blocks.proofs.ScsSoFar.{ScsSoFar, scs-more}
-use Rattle.scs_write.specs.ScsWritten.{sizeBytes, scsBlock}
+use Rattle.scs_write.specs.ScsWritten.{scsBlock}
 
 size-back : (n : ℕ) → n < 4294967296 → n % 256 + 256 * (n / 256 % 256) + 65536 * (n / 65536 % 256) + 16777216 * (n / 16777216 % 256) ≡ n
 size-back n h =

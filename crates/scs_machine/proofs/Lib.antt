@@ -1,2 +1,2 @@
-pub mod ScsRead
+pub mod ScsValid
 pub mod Theorems

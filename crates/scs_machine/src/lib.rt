@@ -5,7 +5,7 @@ use spectrum::Machine;
 use spectrum::Switches;
 use spectrum::Video;
 ghost use mathlib.Core.Path.{_≡_};
-ghost use Rattle.header_read.specs.Reading.{carried, noSide};
+ghost use Rattle.header_read.specs.Reading.{carried};
 ghost use Rattle.scs_machine.specs.ScsMachine.{scsPairs, scsSwitches, scsSound, scsMachine};
 
 // The machine that both blocks give.
@@ -17,7 +17,7 @@ pub fn machine_from(model: Model, cpu: [u8; 34], ports: [u8; 19]) -> Machine
     let out7ffd = carry_byte(model, ports[1]);
     let outfffd = carry_byte(model, ports[2] % 16);
     let sound = sound_from(model, ports);
-    let side = side_of_v1();
+    let side = header_read::no_side();
     Machine {
         pairs: pairs,
         i: cpu[24],
@@ -89,14 +89,4 @@ fn sound_from(model: Model, ports: [u8; 19]) -> [u8; 16]
         Model::K48 => [0u8; 16],
         Model::K128 => slices::part16(&ports, 3),
     }
-}
-
-// The side bytes from 61 on, as v1 gives them.
-fn side_of_v1() -> [u8; 25]
-    ensures { λ r. ⌜ r ≡ noSide ⌝ }
-{
-    let mut side = [0u8; 25];
-    side[0] = 255;
-    side[1] = 255;
-    side
 }

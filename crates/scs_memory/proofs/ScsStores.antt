@@ -1,9 +1,9 @@
 -- The pages of an area written out one after the other.
-use Prim.Native.Nat.{ℕ, _+_, _-_, _≤_}
+use Prim.Native.Nat.{ℕ, _+_, _≤_}
 use native.Mathlib.Omega.{arith}
-use mathlib.Core.Path.{_≡_, ap, _∙_}
+use mathlib.Core.Path.{_≡_, ap}
 use mathlib.Core.List.{List, _++_, append-assoc}
-use lib.ListN.{length, take, drop, length-append}
+use lib.ListN.{length, length-append}
 use Rattle.slices.specs.Put.{put}
 use Rattle.slices.proofs.Puts.{put-put}
 use Rattle.pages.specs.declared.Model.{Model}
@@ -11,11 +11,6 @@ use Rattle.pages.specs.declared.Model.the-variants.{K48, K128}
 use Rattle.pages.specs.Pages.{pageIn}
 use Rattle.pages.proofs.Inside.{page-long}
 use Rattle.scs_memory.specs.ScsMemory.{memorySize, scsData}
-
-pub page-stored : (area out after : List ℕ) (base place : ℕ) → after ≡ put out place (take (base + 16384 - base) (drop base area)) → after ≡ put out place (take 16384 (drop base area))
-page-stored area out after base place e =
-    let z : base + 16384 - base ≡ 16384 = omega arith in
-    e ∙ rw z
 
 -- three pages put one after the other
 three-puts : (d p q r : List ℕ) (place : ℕ) → length p ≡ 16384 → length q ≡ 16384 → place + 49152 ≤ length d

@@ -2,7 +2,7 @@
 use pages::Model;
 ghost use Prim.Native.Nat.{_+_, _-_, _≤_};
 ghost use mathlib.Core.Path.{_≡_};
-ghost use lib.ListN.{length, take, drop, replicate};
+ghost use lib.ListN.{length, drop, replicate};
 ghost use Rattle.slices.specs.Put.{put};
 ghost use Rattle.pages.specs.declared.Model.the-variants.{K48};
 ghost use Rattle.scs_blocks.specs.ScsBlocks.{zeroFilled};
@@ -65,16 +65,7 @@ fn store_48k(area: &[u8], out: &mut [u8], place: usize)
     requires { ⌜ (length (now area) ≡ 131072) × (place + 49152 ≤ length (now out)) ⌝ }
     ensures { λ _. ⌜ now (out .exit) ≡ put (now (out .entry)) place (scsData K48 (now (area .entry))) ⌝ }
 {
-    store_page(area, 81920, out, place);
-    store_page(area, 32768, out, place + 16384);
-    store_page(area, 0, out, place + 32768);
-}
-
-// The page that stands at a place of the area.
-fn store_page(area: &[u8], base: usize, out: &mut [u8], place: usize)
-    requires { ⌜ (base + 16384 ≤ length (now area)) × (place + 16384 ≤ length (now out)) ⌝ }
-    ensures { λ _. ⌜ now (out .exit) ≡ put (now (out .entry)) place (take 16384 (drop base (now (area .entry)))) ⌝ }
-{
-    let top = base + 16384;
-    slices::put_at(out, place, &area[base..top]);
+    body_v1::move_page(area, 81920, out, place);
+    body_v1::move_page(area, 32768, out, place + 16384);
+    body_v1::move_page(area, 0, out, place + 32768);
 }

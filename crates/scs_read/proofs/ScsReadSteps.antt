@@ -1,12 +1,11 @@
 -- A file read, at each return of the code.
 use Prim.Native.Nat.{ℕ}
-use mathlib.Core.Path.{_≡_, refl, sym, ap, subst, _∙_}
-use mathlib.Core.Bool.{Bool, true, false}
+use mathlib.Core.Path.{_≡_, sym, ap, subst, _∙_}
+use mathlib.Core.Bool.{true}
 use mathlib.Core.List.{List}
 use lib.ListN.{length}
 use lib.Dec.{eqb}
 use borrow.Author.Tests.{eq-eqb, ne-eqb, eqb-false}
-use Rattle.slices.specs.Choose.{choose}
 use Rattle.slices.proofs.Chosen.{either}
 use Rattle.pages.specs.declared.Model.{Model}
 use Rattle.numbers.specs.declared.Refusal.{Refusal}
@@ -20,12 +19,12 @@ use Rattle.scs_blocks.specs.declared.ScsSeen.{ScsSeen}
 use Rattle.scs_blocks.specs.declared.ScsFound.{ScsFound}
 use Rattle.scs_blocks.specs.declared.ScsFound.the-variants.{Bad, Blocks}
 use Rattle.scs_blocks.specs.ScsBlocks.{threeSeen, scsBlocks, dataOf, zeroFilled}
-use Rattle.scs_machine.specs.ScsMachine.{scsMode, scsMachine}
-use Rattle.scs_machine.proofs.ScsRead.{scs-valid}
+use Rattle.scs_machine.specs.ScsMachine.{scsMode}
+use Rattle.scs_machine.proofs.ScsValid.{scs-valid}
 use Rattle.scs_head.specs.declared.ScsHead.{ScsHead}
 use Rattle.scs_head.specs.declared.ScsHead.the-variants.{Spectrum}
 use Rattle.scs_head.specs.ScsHeads.{scsHeadOf}
-use Rattle.scs_read.specs.ScsReads.{scsLoaded, afterSeen, afterFound, afterScsHead, scsReadOf}
+use Rattle.scs_read.specs.ScsReads.{afterSeen, afterFound, afterScsHead, scsReadOf}
 
 -- a refusal is not accepted, so nothing is said of its machine
 refused-reads : (o : ReadResult) (why : Refusal) (n : ℕ) (r : Opened) (area : List ℕ) → refusedRead why n ≡ o → ReadLeaves (refusedRead why n) r area → Reads o r area

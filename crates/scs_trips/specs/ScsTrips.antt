@@ -2,7 +2,7 @@
 use Prim.Native.Nat.{ℕ, _+_, _≤_}
 use mathlib.Core.Path.{_≡_}
 use mathlib.Core.List.{List}
-use lib.ListN.{length, take}
+use lib.ListN.{take}
 use Rattle.spectrum.specs.declared.Machine.{Machine}
 use Rattle.header_write.specs.Writing.{headerOf, HeaderFor}
 use Rattle.z80file.specs.Clean.{Clean}

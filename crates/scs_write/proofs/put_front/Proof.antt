@@ -22,7 +22,7 @@ same-length : tie.Need-same-length
 same-length c = search needs
 
 returns : tie.Need-returns
-returns c = 
+returns c =
     front-put (c .before .before .before .before .before .before .before .before .before .before .before .before .args .model) _ _ _ _ (c .before .before .before .before .before .before .before .before .before .before .before .before .pre) (c .before .before .before .before .before .before .before .before .put-at .ensures) (c .before .before .before .before .hardware-and-size .ensures) (c .before .before .put-at2 .ensures)
 
 pub put-front-spec : {M : Type 1} → statement M
