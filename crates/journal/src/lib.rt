@@ -44,10 +44,11 @@ pub fn open_scs(file: &[u8], area: &mut [u8], log: &mut [u8]) -> Done
     let read = scs_read::read(file, area);
     let said = read.answer;
     let saved = read.machine;
+    let counts = start(log);
     Done {
         answer: said,
         machine: saved,
-        counts: start(log),
+        counts: counts,
     }
 }
 

@@ -65,7 +65,7 @@ fn lay_file(m: Machine, area: &[u8], out: &mut [u8])
     m.typed();
     let model = m.model;
     let end = 20 + size_of_memory(model);
-    put_front(model, out);
+    lay_front(model, out);
     scs_memory::store_memory(area, model, out, 20);
     put_cpu(m, out, end);
     put_ports(m, out, end + 39);
@@ -73,7 +73,7 @@ fn lay_file(m: Machine, area: &[u8], out: &mut [u8])
 }
 
 // The header, and the head of the Memory block.
-fn put_front(model: Model, out: &mut [u8])
+fn lay_front(model: Model, out: &mut [u8])
     requires { ⌜ 20 ≤ length (now out) ⌝ }
     ensures { λ _. ⌜ now (out .exit) ≡ put (now (out .entry)) 0 (scsHeader model ++ (3 ∷ sizeBytes (memorySize model))) ⌝ }
 {

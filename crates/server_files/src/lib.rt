@@ -36,11 +36,11 @@ pub fn serve_scs(
     standing: &mut u64,
     total: &mut u64,
     calls: &[u8],
-    answers: &mut [u8],
+    said: &mut [u8],
 ) -> u32
-    ensures { λ r. ⌜ ServesFile (scsReadOfBytes (now (file .entry)) (length (now (area .entry))) (length (now (head .entry)))) (startOf (scsReadOf (now (file .entry)) (length (now (area .entry))))) (now (log .entry)) (now (calls .entry)) (length (now (answers .entry))) r (buffersOut head area log standing total) (now (answers .exit)) ⌝ }
+    ensures { λ r. ⌜ ServesFile (scsReadOfBytes (now (file .entry)) (length (now (area .entry))) (length (now (head .entry)))) (startOf (scsReadOf (now (file .entry)) (length (now (area .entry))))) (now (log .entry)) (now (calls .entry)) (length (now (said .entry))) r (buffersOut head area log standing total) (now (said .exit)) ⌝ }
 {
     let read = snapshot::snap_scs_read(file, area, head);
-    server::serve(head, area, log, standing, total, calls, answers);
+    server::serve(head, area, log, standing, total, calls, said);
     read
 }

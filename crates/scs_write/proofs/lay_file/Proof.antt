@@ -12,8 +12,8 @@ size-of-memory-requires c κs = search needs
 add-end : tie.Need-add-end
 add-end c = search needs
 
-put-front-requires : tie.Need-put-front-requires
-put-front-requires c κs = search needs
+lay-front-requires : tie.Need-lay-front-requires
+lay-front-requires c κs = search needs
 
 store-memory-requires : tie.Need-store-memory-requires
 store-memory-requires c κs = search needs
@@ -39,7 +39,7 @@ same-length c = search needs
 returns : tie.Need-returns
 returns c =
     let start = c .before .before .before .before .before .before .before .before .before .before .before .before .before .before .before .before .before .before .before .before .before .before .before .before in
-    file-laid _ _ (c .before .before .before .before .before .before .before .before .before .before .before .before .before .before .before .before .before .before .before .before .before .typed .ensures) (start .pre .0) _ _ _ _ _ _ _ (start .pre .1) (c .before .before .before .before .before .before .before .before .before .before .before .before .before .before .before .before .before .before .before .before .size-of-memory .ensures) (c .before .before .before .before .before .before .before .before .before .before .before .before .before .before .before .before .before .before .put-front .ensures)
+    file-laid _ _ (c .before .before .before .before .before .before .before .before .before .before .before .before .before .before .before .before .before .before .before .before .before .typed .ensures) (start .pre .0) _ _ _ _ _ _ _ (start .pre .1) (c .before .before .before .before .before .before .before .before .before .before .before .before .before .before .before .before .before .before .before .before .size-of-memory .ensures) (c .before .before .before .before .before .before .before .before .before .before .before .before .before .before .before .before .before .before .lay-front .ensures)
     (c .before .before .before .before .before .before .before .before .before .before .before .before .before .before .store-memory .ensures) (c .before .before .before .before .before .before .before .before .before .before .put-cpu .ensures) (c .before .before .before .before .before .before .put-ports .ensures) (c .before .before .clear-from .ensures)
 
 pub lay-file-spec : {M : Type 1} → statement M
@@ -49,7 +49,7 @@ lay-file-spec =
     typed-requires
     size-of-memory-requires
     add-end
-    put-front-requires
+    lay-front-requires
     store-memory-requires
     put-cpu-requires
     add-put-ports

@@ -1,7 +1,7 @@
 use Rattle.scs_write.proofs.ScsLaid.{front-put}
 use borrow.Author.Needs.{needs}
-use Rattle.scs_write.proofs.put_front.Statement.{statement}
-use Rattle.scs_write.proofs.put_front.Tie as tie
+use Rattle.scs_write.proofs.lay_front.Statement.{statement}
+use Rattle.scs_write.proofs.lay_front.Tie as tie
 
 slice-aggregate-put-at : tie.Need-slice-aggregate-put-at
 slice-aggregate-put-at c = search needs
@@ -25,8 +25,8 @@ returns : tie.Need-returns
 returns c =
     front-put (c .before .before .before .before .before .before .before .before .before .before .before .before .args .model) _ _ _ _ (c .before .before .before .before .before .before .before .before .before .before .before .before .pre) (c .before .before .before .before .before .before .before .before .put-at .ensures) (c .before .before .before .before .hardware-and-size .ensures) (c .before .before .put-at2 .ensures)
 
-pub put-front-spec : {M : Type 1} → statement M
-put-front-spec =
+pub lay-front-spec : {M : Type 1} → statement M
+lay-front-spec =
     tie.close
     (tie.spec
     slice-aggregate-put-at
