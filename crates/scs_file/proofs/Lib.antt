@@ -3,4 +3,5 @@ pub mod ScsAreas
 mod ScsStepOver
 pub mod ScsFileBack
 pub mod ScsStarts
+mod RefutedScs
 pub mod Theorems

@@ -1,3 +1,4 @@
 pub mod ScsKeeps
 pub mod ScsRoundTrip
+pub mod WrongScs
 pub mod Theorems

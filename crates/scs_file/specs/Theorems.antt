@@ -8,6 +8,7 @@ use Rattle.spectrum.specs.declared.Machine.{Machine}
 use Rattle.numbers.specs.declared.Answer.the-variants.{Accepted}
 use Rattle.spectrum.specs.Valid.{Typed, validOf}
 use Rattle.z80file.specs.Clean.{Clean, ReadGives}
+use Rattle.z80file.specs.WrongFiles.{refusesFiles}
 use Rattle.pages.specs.declared.Model.{Model}
 use Rattle.scs_pieces.specs.ScsPieces.{scsCpu, scsPorts}
 use Rattle.scs_machine.specs.ScsMachine.{scsMachine}
@@ -15,6 +16,7 @@ use Rattle.scs_read.specs.ScsReads.{scsReadOf}
 use Rattle.scs_write.specs.ScsWritten.{scsFileOf, scsWrittenOf}
 use Rattle.scs_file.specs.ScsKeeps.{scsKeeps}
 use Rattle.scs_file.specs.ScsRoundTrip.{ScsBackOf}
+use Rattle.scs_file.specs.WrongScs.{scsFixedMachine, scsInventsLength}
 
 pub record Theorems : Type 0 where
   -- demand 2 for SCS: reading and writing as they are defined, which `read` and `write` equal
@@ -32,3 +34,8 @@ pub record Theorems : Type 0 where
   pub machine-kept : (m : Machine) → Typed m → validOf m ≡ true → scsMachine (m .model) (scsCpu m) (scsPorts m) ≡ scsKeeps m
   -- of a machine that two blocks give, SCS keeps all
   pub keeps-read : (model : Model) (cpu ports : List ℕ) → scsKeeps (scsMachine model cpu ports) ≡ scsMachine model cpu ports
+  -- the empty versions of demand 2 do not meet it for SCS either: a reader that refuses everything, one that gives a fixed machine, whichever
+  -- it is, and a writer with an invented length
+  pub refuted-scs-refuses : ScsBackOf refusesFiles scsWrittenOf → ⊥
+  pub refuted-scs-fixed : (fixed : Machine) → ScsBackOf (scsFixedMachine fixed) scsWrittenOf → ⊥
+  pub refuted-scs-length : ScsBackOf scsReadOf scsInventsLength → ⊥

@@ -47,14 +47,14 @@ unfolding refusesFiles
 refuted-refuses-files h = refused-not FileShort (ap (λ (o : ReadResult). o .answer) (h sample blank-area sample-typed sample-valid clean))
 
 -- the sample with another last OUT
-otherMachine : Machine
+unfoldable pub otherMachine : Machine
 otherMachine = withOut sample 1
 
-other-typed : Typed otherMachine
+pub other-typed : Typed otherMachine
 unfolding otherMachine withOut sample
 other-typed = record { pairs = λ k. omega (arith, zero-at 12 k); count = refl; r8 = omega arith; out = omega arith; sound = refl; side = refl }
 
-other-valid : validOf otherMachine ≡ true
+pub other-valid : validOf otherMachine ≡ true
 unfolding otherMachine withOut sample validOf
 other-valid = refl
 
