@@ -29,23 +29,23 @@ use Rattle.scs_file.specs.ScsKeeps.{scsKeeps}
 use Rattle.scs_file.specs.ScsRoundTrip.{ScsBackOf}
 use Rattle.scs_file.specs.WrongScs.{scsFixedMachine, scsInventsLength}
 
-zero-area : List ℕ
-zero-area = blank 131072
+area-of-zeros : List ℕ
+area-of-zeros = blank 131072
 
-clean-zeros : (m : Machine) → Clean (m .model) zero-area
-unfolding zero-area
+clean-zeros : (m : Machine) → Clean (m .model) area-of-zeros
+unfolding area-of-zeros
 clean-zeros m = clean-blank (m .model)
 
 pub refuted-scs-refuses : ScsBackOf refusesFiles scsWrittenOf → ⊥
 unfolding refusesFiles
-refuted-scs-refuses h = refused-not FileShort (ap (λ (o : ReadResult). o .answer) (h sample zero-area sample-typed sample-valid (clean-zeros sample)))
+refuted-scs-refuses h = refused-not FileShort (ap (λ (o : ReadResult). o .answer) (h sample area-of-zeros sample-typed sample-valid (clean-zeros sample)))
 
 -- one machine is read for both, where their last OUTs are 0 and 1
 pub refuted-scs-fixed : (fixed : Machine) → ScsBackOf (scsFixedMachine fixed) scsWrittenOf → ⊥
 unfolding scsFixedMachine scsKeeps otherMachine withOut sample
 refuted-scs-fixed fixed h =
-    let one : fixed .out7ffd ≡ 0 = ap (λ (o : ReadResult). o .machine .out7ffd) (h sample zero-area sample-typed sample-valid (clean-zeros sample)) in
-    let two : fixed .out7ffd ≡ 1 = ap (λ (o : ReadResult). o .machine .out7ffd) (h otherMachine zero-area other-typed other-valid (clean-zeros otherMachine)) in
+    let one : fixed .out7ffd ≡ 0 = ap (λ (o : ReadResult). o .machine .out7ffd) (h sample area-of-zeros sample-typed sample-valid (clean-zeros sample)) in
+    let two : fixed .out7ffd ≡ 1 = ap (λ (o : ReadResult). o .machine .out7ffd) (h otherMachine area-of-zeros other-typed other-valid (clean-zeros otherMachine)) in
     omega arith
 
 -- a header alone is refused
@@ -57,17 +57,17 @@ sample-128k : sample .model ≡ K128
 unfolding sample
 sample-128k = refl
 
-first-bytes : (rest : List ℕ) → take 15 (scsFileOf sample zero-area ++ rest) ≡ scsHeader K128
+first-bytes : (rest : List ℕ) → take 15 (scsFileOf sample area-of-zeros ++ rest) ≡ scsHeader K128
 unfolding scsFileOf sample
 first-bytes rest = refl
 
-header-begins : take 15 (scsWrittenOf sample zero-area 131160 .out) ≡ scsHeader K128
+header-begins : take 15 (scsWrittenOf sample area-of-zeros 131160 .out) ≡ scsHeader K128
 header-begins =
-    let l : length (scsFileOf sample zero-area) ≤ 131160 = omega (arith, scs-file-128k sample zero-area sample-typed (clean-zeros sample .long) sample-128k) in
-    ap (λ (o : WriteResult). take 15 (o .out)) (scs-fits sample zero-area 131160 sample-valid (clean-zeros sample .long) l) ∙ first-bytes _
+    let l : length (scsFileOf sample area-of-zeros) ≤ 131160 = omega (arith, scs-file-128k sample area-of-zeros sample-typed (clean-zeros sample .long) sample-128k) in
+    ap (λ (o : WriteResult). take 15 (o .out)) (scs-fits sample area-of-zeros 131160 sample-valid (clean-zeros sample .long) l) ∙ first-bytes _
 
 pub refuted-scs-length : ScsBackOf scsReadOf scsInventsLength → ⊥
 unfolding scsInventsLength
 refuted-scs-length h =
     refused-not ScsMemoryNotFirst
-    (sym header-only ∙ ap (λ (l : List ℕ). scsReadOf l 131072 .answer) (sym header-begins) ∙ ap (λ (o : ReadResult). o .answer) (h sample zero-area sample-typed sample-valid (clean-zeros sample)))
+    (sym header-only ∙ ap (λ (l : List ℕ). scsReadOf l 131072 .answer) (sym header-begins) ∙ ap (λ (o : ReadResult). o .answer) (h sample area-of-zeros sample-typed sample-valid (clean-zeros sample)))
