@@ -30,10 +30,9 @@ static const char *unwrap_parts(z_stream *stream)
         case Z_MEM_ERROR: return "there is no memory to unwrap it";
         default: return "its gzip wrapper is damaged";
         }
-        if (is_padding(stream->next_in, stream->avail_in))
-            return NULL;
     } while (begins_as_gzip(stream->next_in, stream->avail_in) && inflateReset(stream) == Z_OK);
-    return "something else follows its gzip wrapper";
+    /* once, not after each part: there may be as many parts as zeros */
+    return is_padding(stream->next_in, stream->avail_in) ? NULL : "something else follows its gzip wrapper";
 }
 
 const char *unwrap(const uint8_t *file, size_t length, uint8_t *inside, size_t room, size_t *inside_length)
