@@ -3,6 +3,7 @@
 
 #define SCS_LONG "longer than 5,242,880 bytes, the most that is read of an SCS file"
 #define Z80_LONG "longer than any file of its kind"
+#define GZIP_LONG "longer than 5,242,880 bytes, the most that is read of a file in gzip"
 #define UNWRAPPED "unwrapped, it is "
 
 /* What is wrong with a length, or NULL. */
@@ -31,16 +32,28 @@ bool is_accepted(const struct taking *taken)
     return taken->fault == NULL && taken->number == SNAP_ACCEPTED;
 }
 
-struct taking take_snapshot(const uint8_t *file, size_t length, struct snapshot *opened)
+/* What stands in a wrapper; no second one. */
+static struct taking take_wrapped(const uint8_t *file, size_t length, struct snapshot *opened)
 {
     static uint8_t inside[INPUT_MOST + 1];
+    if (length > INPUT_MOST)
+        return (struct taking){.fault = GZIP_LONG};
+    struct taking taken = {.fault = unwrap(file, length, inside, sizeof inside, &opened->unwrapped)};
+    if (taken.fault != NULL)
+        return taken;
+    taken = take_plain(inside, opened->unwrapped, opened);
+    if (!is_accepted(&taken) && begins_as_gzip(inside, opened->unwrapped))
+        taken.fault = "in its gzip wrapper there is another";
+    return taken;
+}
+
+struct taking take_snapshot(const uint8_t *file, size_t length, struct snapshot *opened)
+{
     opened->length = length;
     opened->unwrapped = 0;
-    if (length > INPUT_MOST || !begins_as_gzip(file, length))
+    if (!begins_as_gzip(file, length))
         return take_plain(file, length, opened);
-    struct taking taken = {.fault = unwrap(file, length, inside, sizeof inside, &opened->unwrapped)};
-    if (taken.fault == NULL)
-        taken = take_plain(inside, opened->unwrapped, opened);
+    struct taking taken = take_wrapped(file, length, opened);
     if (taken.fault == NULL)
         return taken;
     /* registers may look like a wrapper: what is no whole one may be a .Z80 file */
