@@ -71,7 +71,7 @@ enum status open_to_look(const char *path, struct snapshot *opened)
     return is_accepted(&taken) ? ACCEPTED : refused_file(name, taken.number, taken.bytes, taken.length);
 }
 
-enum status open_to_save(const char *path, enum file_kind kind, struct snapshot *opened)
+enum status open_to_save(const char *path, enum file_kind kind, bool format_asked, struct snapshot *opened)
 {
     static struct snapshot kept;
     enum status status = open_to_look(path, opened);
@@ -79,6 +79,8 @@ enum status open_to_save(const char *path, enum file_kind kind, struct snapshot 
         return status;
     if (opened->says_16k)
         warn(input_name(path), "says 16K; it is written as a 48K");
+    if (opened->kind == SCS_FILE && !format_asked)
+        warn(input_name(path), "is an SCS file; it is saved as a .Z80 file, and '--format scs' keeps it one");
     kept_in(kind, opened, &kept);
     tell_lost(input_name(path), opened, &kept);
     return ACCEPTED;

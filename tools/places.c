@@ -71,7 +71,7 @@ bool same_file(const char *one, const char *other)
         && first.st_ino == second.st_ino;
 }
 
-/* What stood at the target that was looked at last. No file of any kind is longer; of one that is, this is the beginning. */
+/* What stood at the target that was looked at last; of a file that is longer than any that is opened, the beginning. */
 static uint8_t seen[INPUT_MOST + 1];
 static size_t seen_length;
 
@@ -97,7 +97,8 @@ bool look_at(const char *target, struct file_state *state)
     return true;
 }
 
-/* Of the two formats neither replaces the other: a name would no longer fit, and an SCS file holds less. */
+/* Of the two formats neither replaces the other: a name would no longer fit, and an SCS file holds less. What is saved is not
+   wrapped, so it does not replace what is. */
 static enum status check_format(const char *name, enum file_kind kind)
 {
     static struct snapshot found;
@@ -106,8 +107,10 @@ static enum status check_format(const char *name, enum file_kind kind)
     struct taking taken = take_snapshot(seen, seen_length, &found);
     if (!is_accepted(&taken))
         return cannot(name, "is there and is no snapshot; only --force replaces it");
-    if (found.kind == kind)
+    if (found.kind == kind && found.unwrapped == 0)
         return ACCEPTED;
+    if (found.kind == kind)
+        return cannot(name, "is there and is in gzip; what is saved is not, so only --force replaces it");
     return cannot(name, kind == SCS_FILE ? "is there and is a .Z80 file; only --force replaces it by an SCS file"
                                          : "is there and is an SCS file; '--format scs' saves one, and only --force"
                                            " replaces it by a .Z80 file");

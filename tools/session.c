@@ -66,9 +66,7 @@ enum status begin_session(struct editing *session, const struct edit_words *word
         return status;
     know_input(&session->known, words->file);
     know_input(&session->known, log);
-    status = open_to_save(words->file, words->kind, &session->opened);
-    if (status == ACCEPTED && session->opened.kind == SCS_FILE && !words->format_asked)
-        warn(words->file, "is an SCS file; it is saved as a .Z80 file, and '--format scs' keeps it one");
+    status = open_to_save(words->file, words->kind, words->format_asked, &session->opened);
     if (status == ACCEPTED && !words->new_log)
         status = load_log(log, &session->opened, words->log != NULL, kept);
     return status;

@@ -119,7 +119,7 @@ static enum status run_write(const struct words *words)
     if (status == ACCEPTED)
         status = check_output(output);
     if (status == ACCEPTED)
-        status = open_to_save(words->names[0], kind, &opened);
+        status = open_to_save(words->names[0], kind, words->options[OPTION_FORMAT] != NULL, &opened);
     return status == ACCEPTED ? output_snapshot(output, &opened, kind, words->options[OPTION_FORCE] != NULL) : status;
 }
 
@@ -152,7 +152,7 @@ const struct option_form option_table[OPTIONS] = {
     [OPTION_SCRIPT] = {"--script", "SCRIPT", "a file of lines instead of the prompt"},
     [OPTION_LOG] = {"--log", "LOG", "the file of the correction log"},
     [OPTION_NEW_LOG] = {"--new-log", NULL, "begins with an empty log, whatever is kept"},
-    [OPTION_FORCE] = {"--force", NULL, "replaces what is of another kind, was changed, or may not be written"},
+    [OPTION_FORCE] = {"--force", NULL, "replaces what is of another kind, in gzip, changed, or may not be written"},
 };
 
 static void print_usage(FILE *to)

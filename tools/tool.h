@@ -41,7 +41,7 @@ enum status read_bounded(const char *path, uint8_t *bytes, size_t most, size_t *
 long read_up_to(int from, uint8_t *bytes, size_t room);
 /* Opens a file, or standard input, to look at it; open_to_save() also tells what will be different when it is saved. */
 enum status open_to_look(const char *path, struct snapshot *opened);
-enum status open_to_save(const char *path, enum file_kind kind, struct snapshot *opened);
+enum status open_to_save(const char *path, enum file_kind kind, bool format_asked, struct snapshot *opened);
 
 /* places.c: where a file is saved. Its target is the file itself: an absolute path, links followed. */
 #define PATH_ROOM 4096
@@ -56,8 +56,8 @@ void folder_of(const char *target, char folder[PATH_ROOM]);
 /* False where it cannot be read. */
 bool look_at(const char *target, struct file_state *state);
 struct file_state state_of_bytes(const uint8_t *bytes, size_t length);
-/* Whether a file of this kind may be saved there. Only `force` replaces one of another kind, or one that may not be written;
-   nothing but a log is ever replaced by a log, and nothing that is no regular file by anything. */
+/* Whether a file of this kind may be saved there. Only `force` replaces one of another kind, one in gzip, or one that may not be
+   written; nothing but a log is ever replaced by a log, and nothing that is no regular file by anything. */
 enum status check_target(const char *name, const char *target, enum file_kind kind, bool force, struct file_state *state);
 bool same_file(const char *one, const char *other);
 
