@@ -89,15 +89,28 @@ wrapped_z80() {
         count=$((count + 1))
     done
     [ "$count" -eq 2 ]
-    # one wrapper, not two; and what is neither format has the refusal that it would have without
-    gzip -c "$work/48.scs.gz" >"$work/two.gz"
-    run_tool 1 info "$work/two.gz"
+    # what is neither format has the refusal that it would have without
     head -c 10 samples/picture.txt | gzip >"$work/text.gz"
     refuses 2 "$work/text.gz" info "$work/text.gz"
     : | gzip >"$work/nothing.gz"
     refuses 2 "$work/nothing.gz" info "$work/nothing.gz"
 }
 check "a .Z80 file in gzip is read as one, and what is neither is refused as it is" wrapped_z80
+
+two_wrappers() {
+    local file sentence="in its gzip wrapper there is another"
+    # of either format, of what is cut, and of more than any file holds
+    { head -c 100000000 /dev/zero | gzip; head -c 600000 /dev/urandom; } >"$work/long.inner"
+    head -c 20 "$work/48.scs.gz" >"$work/cut.inner"
+    gzip -c samples/museum-48k.z80 >"$work/z80.inner"
+    cp "$work/48.scs.gz" "$work/scs.inner"
+    for file in "$work"/*.inner; do
+        gzip -c "$file" >"$work/two.gz"
+        unwraps_not "$sentence" "$work/two.gz"
+    done
+    rm "$work"/*.inner
+}
+check "a wrapper in a wrapper is told" two_wrappers
 
 # A 1F, F 8B and BC as gzip's method and flags; the second also unpacks to a byte before it goes wrong
 like_wrapper() {
@@ -143,6 +156,25 @@ bombs() {
 }
 check "100 MB in a wrapper are told at once, in little memory" bombs
 
+# as long as an input may be: parts of 20 bytes with nothing in them, 131,072 of them, and as many zeros behind
+many_parts() {
+    local file=$work/many.gz again
+    : | gzip -n >"$file"
+    for again in {1..17}; do
+        cat "$file" "$file" >"$work/twice.gz"
+        mv "$work/twice.gz" "$file"
+    done
+    truncate -s 5242880 "$file"
+    in_little 1 info "$file"
+    [ "$(cat "$work/err")" = "snapshot: $file: refused, 2: the file is shorter than its header" ]
+    # the same with something behind the zeros
+    printf x | dd of="$file" bs=1 seek=5242879 conv=notrunc status=none
+    in_little 3 info "$file"
+    [ "$(cat "$work/err")" = "snapshot: $file: something else follows its gzip wrapper" ]
+    rm "$file"
+}
+check "a wrapper of very many parts, and padding behind it, is read at once" many_parts
+
 # padded_to LENGTH: the 48K file with a block that is skipped, so that it is that long.
 padded_to() { head -c -1 "$work/48.scs"; head -c $(($1 - $(stat -c %s "$work/48.scs") + 1 - 5)) /dev/zero | block 32; }
 longest_inputs() {
@@ -162,6 +194,11 @@ longest_inputs() {
     refuses 3 "$work/longest.gz" info "$work/longest.gz"
     head -c 524383 /dev/zero | gzip >"$work/longest.gz"
     unwraps_not "unwrapped, it is longer than any file of its kind" "$work/longest.gz"
+    # a wrapper that is itself too long for an input, whatever is inside
+    { cat "$work/48.scs.gz"; head -c 5242880 /dev/zero; } >"$work/longest.gz"
+    unwraps_not "longer than 5,242,880 bytes, the most that is read of a file in gzip" "$work/longest.gz"
+    truncate -s 5242880 "$work/longest.gz"
+    run_tool 0 info "$work/longest.gz"
     rm "$work"/most.scs* "$work"/bomb* "$work/longest.gz"
 }
 check "an SCS file of 5,242,880 bytes is read, plain and in gzip, and a longer one is told" longest_inputs

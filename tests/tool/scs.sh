@@ -27,7 +27,7 @@ make_scs_files() {
     { memory_block 128 {0..7}; echo air | block 33; ports_block; : | block 255; cpu_block; printf '\0\1\2\3'; } | scs 2 >"$work/128.scs"
     for model in 48 128; do
         gzip -c "$work/$model.scs" >"$work/$model.scs.gz"
-        "$tool" write "$work/$model.scs" -o "$work/from$model.z80" 2>"$work/err"
+        "$tool" write "$work/$model.scs" -o "$work/from$model.z80" --format z80 2>"$work/err"
         [ ! -s "$work/err" ]
     done
     [ "$(stat -c %s "$work/48.scs" "$work/128.scs" | paste -s -d ' ')" = "$((15 + 15 + 49152 + 34 + 19 + 1)) $((15 + 25 + 131072 + 34 + 19 + 4 + 4))" ]

@@ -114,17 +114,74 @@ scs_replaces() {
     for file in z80 scs; do
         keeps 3 "$work/kinds/notes" "is there and is no snapshot" write "$scs" -o "$work/kinds/notes" --format "$file"
     done
-    # its own format it replaces, wrapped or not; by --force anything
-    for file in "$scs" "$scs.gz"; do run_tool 0 write "$work/128.scs" -o "$file" --format scs; done
-    cmp "$scs" "$scs.gz"
-    for file in "$z80" "$z80.gz"; do run_tool 0 write "$scs" -o "$file"; done
-    cmp "$z80" "$z80.gz"
+    # its own format it replaces; by --force anything
+    run_tool 0 write "$work/128.scs" -o "$scs" --format scs
+    run_tool 0 write "$scs" -o "$z80"
     run_tool 0 write "$scs" -o "$z80" --format scs --force
     cmp "$scs" "$z80"
     run_tool 0 write "$scs" -o "$z80" --force
     cmp "$z80" "$work/from128.z80"
 }
 check "of the two formats neither replaces the other but by --force" scs_replaces
+
+# what is saved is not wrapped: over a file in gzip only by --force, in both commands, also over the input itself
+over_wrapped() {
+    local format file sentence='is there and is in gzip; what is saved is not, so only --force replaces it'
+    rm -rf "$work/kinds"
+    mkdir "$work/kinds"
+    for format in scs z80; do
+        file=$work/kinds/a.$format.gz
+        gzip -c "$work/from48.z80" >"$work/kinds/a.z80.gz"
+        cp "$work/48.scs.gz" "$work/kinds/a.scs.gz"
+        keeps 3 "$file" "$sentence" write "$work/128.scs" -o "$file" --format $format
+        keeps 3 "$file" "$sentence" write "$file" -o "$file" --format $format
+        lines 'byte 8000 01' 'save'
+        keeps 3 "$file" "$sentence" edit "$file" -o "$file" --format $format --script "$work/script"
+        keeps 3 "$file" "$sentence" edit "$work/128.scs" -o "$file" --format $format --script "$work/script"
+        [ ! -s "$work/out" ]
+        lines 'byte 8000 01' "save $file"
+        keeps 3 "$file" "$sentence" edit "$work/128.scs" -o "$work/kinds/out" --format $format --script "$work/script"
+        [ ! -e "$file.snaplog" ]
+        [ ! -e "$work/kinds/out" ]
+        lines 'byte 8000 01' "save --force $file"
+        run_tool 0 edit "$work/48.scs" -o "$work/kinds/out" --format $format --script "$work/script"
+        mv "$file" "$work/edited"
+        gzip -c "$work/edited" >"$file"
+        lines 'undo' 'save'
+        run_tool 0 edit "$file" -o "$file" --format $format --force --script "$work/script"
+        run_tool 0 write "$work/48.scs" -o - --format $format
+        cmp "$work/out" "$file"
+        # no longer wrapped, it is replaced as any file of its format
+        run_tool 0 write "$work/128.scs" -o "$file" --format $format
+        rm "$file.snaplog"
+    done
+}
+check "what stands in gzip is replaced only by --force" over_wrapped
+
+# a name does not choose the format: of an SCS file that is saved without one a line says so, in both commands
+scs_as_z80() {
+    local file name line
+    line="is an SCS file; it is saved as a .Z80 file, and '--format scs' keeps it one"
+    for file in "$work/48.scs" "$work/128.scs.gz"; do
+        rm -f "$work/copy.scs" "$work/copy.scs.snaplog"
+        run_tool 0 write "$file" -o "$work/copy.scs"
+        [ "$(cat "$work/err")" = "snapshot: $file: $line" ]
+        name=${file##*/}
+        cmp "$work/copy.scs" "$work/from${name%%.*}.z80"
+        lines 'list'
+        run_tool 0 edit "$file" -o "$work/copy.scs" --script "$work/script"
+        [ "$(cat "$work/err")" = "snapshot: $file: $line" ]
+        as_input 0 "$file" write - -o -
+        [ "$(cat "$work/err")" = "snapshot: standard input: $line" ]
+        for name in z80 scs; do
+            run_tool 0 write "$file" -o - --format $name
+            [ ! -s "$work/err" ]
+        done
+    done
+    run_tool 0 write "$work/from48.z80" -o -
+    [ ! -s "$work/err" ]
+}
+check "an SCS file that is written without --format becomes a .Z80 file, and a line says so" scs_as_z80
 
 edited_scs() {
     local model ending file=$work/edited.scs place
