@@ -232,6 +232,7 @@ uint32_t snap_z80_write(const uint8_t *header, size_t header_len,
 /*
  * Reads an SCS file with a 48K or 128K Spectrum inside, already unwrapped (one that is still gzip is 40, or 2), into the
  * machine's header and area as snap_z80_read does. What SCS does not hold is as from a v1 file: no attachment, position 0.
+ * Not kept: clock numbers, other blocks, bits that do not count, a 48K's OUTs and sound, bytes past a block's due length.
  * Refused, in this order: 20 for a header buffer of another length, 1 area, 2 under 15 bytes, 40, 43, block by block 8 then
  * 42, then 41, last 5; then area and header are as after a refused snap_z80_read.
  */
