@@ -169,27 +169,26 @@ impl FileChecker {
         Ok((number, file))
     }
 
-    /// Every number of both calls was among the ones compared, and enough files were read.
+    /// Prints the counts. Reading and writing gave each of their numbers and no other, and enough files were read.
     pub fn numbers_seen(&self, least_files: u64) -> Outcome {
-        let numbers = self.format.numbers.iter();
-        let reads = numbers.map(|n| ("read", *n, self.reads[*n]));
-        let writes = [0, 20, 21, 22].map(|n| ("write", n, self.writes[n]));
-        let all: Vec<_> = reads.chain(writes).collect();
-        for call in ["read", "write"] {
-            let of_call = all.iter().filter(|(name, ..)| *name == call);
-            let list: Vec<String> = of_call
-                .map(|(_, n, count)| format!("{n}: {count}"))
-                .collect();
-            println!("    {call}  {}", list.join(", "));
-        }
         let files: u64 = self.reads.iter().sum();
+        let reads = expect_numbers("read", &self.reads, self.format.numbers);
+        let writes = expect_numbers("write", &self.writes, &[0, 20, 21, 22]);
         println!("    {files} files read");
-        if files < least_files {
-            return Err(format!("only {files} files were read"));
+        match files < least_files {
+            true => Err(format!("only {files} files were read")),
+            false => reads.and(writes),
         }
-        match all.iter().find(|(.., count)| *count == 0) {
-            Some((call, number, _)) => Err(format!("{call} never answered {number}")),
-            None => Ok(()),
-        }
+    }
+}
+
+/// Prints how often a call gave each number: each of `numbers`, and no other.
+fn expect_numbers(call: &str, counts: &[u64; NUMBERS], numbers: &[usize]) -> Outcome {
+    let given = (0..NUMBERS).filter(|n| counts[*n] > 0);
+    let list: Vec<String> = given.map(|n| format!("{n}: {}", counts[n])).collect();
+    println!("    {call}  {}", list.join(", "));
+    match (0..NUMBERS).find(|n| numbers.contains(n) != (counts[*n] > 0)) {
+        Some(n) => Err(format!("{call} answered {n} {} times", counts[n])),
+        None => Ok(()),
     }
 }
