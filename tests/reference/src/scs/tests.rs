@@ -41,19 +41,13 @@ fn answer(file: &[u8]) -> u32 {
     answer
 }
 
-#[test]
-fn every_field_stands_where_the_format_has_it() {
-    let blocks = [
-        block(3, &[]),
-        block(1, &counting_cpu()),
-        block(2, &counting_ports()),
-    ];
-    let (machine, _) = read(&file(2, &blocks)).expect("a good file");
+/// The 128K machine of both counting blocks.
+fn counted_machine() -> Machine {
     let mut sound = [0; 16];
     sound.copy_from_slice(&counting_ports()[3..]);
     let mut side = [0; 26];
     (side[1], side[2]) = (255, 255);
-    let due = Machine {
+    Machine {
         model: Model::K128,
         a: 1,
         f: 2,
@@ -80,15 +74,25 @@ fn every_field_stands_where_the_format_has_it() {
         sound,
         side,
         ..Machine::blank()
-    };
-    assert_eq!(machine, due);
+    }
+}
+
+#[test]
+fn every_field_stands_where_the_format_has_it() {
+    let blocks = [
+        block(3, &[]),
+        block(1, &counting_cpu()),
+        block(2, &counting_ports()),
+    ];
+    let (machine, _) = read(&file(2, &blocks)).expect("a good file");
+    assert_eq!(machine, counted_machine());
     let (machine, _) = read(&file(1, &blocks)).expect("a good file");
     let due = Machine {
         model: Model::K48,
         paging: 0,
         sound_select: 0,
         sound: [0; 16],
-        ..due
+        ..counted_machine()
     };
     assert_eq!(machine, due);
 }
