@@ -26,10 +26,28 @@ struct tried_call usual(enum function function, const struct lent_buffers *lent)
 #define LOGGED                                                                                                         \
     lent->header, call->header_len, lent->area, call->area_len, lent->log, call->log_len, &lent->standing, &lent->total
 
+/* One of the last four functions. */
+static uint32_t make_look(struct lent_buffers *lent, const struct tried_call *call)
+{
+    struct figures *figures = &lent->figures;
+    switch (call->function) {
+    case VERSION:
+        return snap_version() != SNAP_VERSION; /* it answers no number: 0 where it is the header file's */
+    case MODEL:
+        return snap_model(lent->header, call->header_len, &figures->model, &figures->attachment);
+    case PAIR_VALUE:
+        return snap_pair(lent->header, call->header_len, (uint8_t)call->place, &figures->pair);
+    case PLACE:
+        return snap_place(lent->header, call->header_len, call->place, &figures->in_rom, &figures->page,
+                          &figures->offset);
+    default:
+        return ANY; /* no call: what the way there takes */
+    }
+}
+
 uint32_t make_call(struct lent_buffers *lent, const struct tried_call *call)
 {
     static const uint8_t rom[SNAP_ROM_SIZE_128K + 1];
-    struct figures *figures = &lent->figures;
     switch (call->function) {
     case READ:
         return snap_z80_read(call->file, call->file_len, lent->area, call->area_len, lent->header, call->header_len);
@@ -43,7 +61,7 @@ uint32_t make_call(struct lent_buffers *lent, const struct tried_call *call)
                               &lent->length);
     case VIEW:
         return snap_view(lent->header, call->header_len, rom, call->rom_len, lent->area, call->area_len,
-                         (uint8_t)call->place, &figures->in_rom, &lent->start, &lent->length);
+                         (uint8_t)call->place, &lent->figures.in_rom, &lent->start, &lent->length);
     case START:
         return snap_log_start(lent->log, call->log_len, &lent->standing, &lent->total);
     case BYTE:
@@ -56,17 +74,7 @@ uint32_t make_call(struct lent_buffers *lent, const struct tried_call *call)
         return snap_undo(LOGGED);
     case REDO:
         return snap_redo(LOGGED);
-    case VERSION:
-        return snap_version() != SNAP_VERSION; /* it answers no number: 0 where it is the header file's */
-    case MODEL:
-        return snap_model(lent->header, call->header_len, &figures->model, &figures->attachment);
-    case PAIR_VALUE:
-        return snap_pair(lent->header, call->header_len, (uint8_t)call->place, &figures->pair);
-    case PLACE:
-        return snap_place(lent->header, call->header_len, call->place, &figures->in_rom, &figures->page,
-                          &figures->offset);
-    case FUNCTIONS:
-        break;
+    default:
+        return make_look(lent, call);
     }
-    return ANY; /* no call: what the way there takes */
 }
