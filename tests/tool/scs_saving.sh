@@ -92,6 +92,24 @@ CHANGES
 }
 check "what is lost is told in one line, each part by its name, and nothing else is" losses
 
+# of an SCS file that holds more than its machine, what is written is that of one that does not, in both formats, without a line
+not_kept() {
+    local cpu=$cpu ports=$ports format
+    { memory_block 48 5 2 0; cpu_block; ports_block; } | scs 1 >"$work/less.scs"
+    # mode, IFFs and clock numbers; border, OUTs and sound of a 48K; each block longer than is due
+    cpu=${cpu:0:52}020200000000000055
+    ports=05$(printf '%036d' 0)55
+    { cat "$work"/page48.{5,2,0} <(echo more) | block 3; : | block 4; cpu_block; ports_block; echo air | block 33; printf '\0\1\2'; } |
+        scs 1 | sed '1s/TEST/ASCD/' >"$work/more.scs"
+    for format in scs z80; do
+        run_tool 0 write "$work/less.scs" -o "$work/less" --format $format --force
+        run_tool 0 write "$work/more.scs" -o "$work/more" --format $format --force
+        [ ! -s "$work/err" ]
+        cmp "$work/less" "$work/more"
+    done
+}
+check "what is not kept of an SCS file is what the manual says" not_kept
+
 scs_replaces() {
     rm -rf "$work/kinds"
     mkdir "$work/kinds"
