@@ -9,6 +9,9 @@ pub const ROUNDS: usize = 20;
 /// The shortest measurement.
 const LEAST: Duration = Duration::from_millis(1);
 
+/// How often a length is tried before the measurements.
+const TRIES: usize = 5;
+
 pub type Contender<'a> = Box<dyn FnMut() + 'a>;
 
 /// The nanoseconds of one call of each contender, round by round.
@@ -57,13 +60,22 @@ fn measure(contender: &mut Contender, repeats: u32) -> Duration {
     start.elapsed()
 }
 
-/// How many calls make one measurement long enough.
+/// How many calls make one measurement long enough: about as long for every contender, however fast it is.
 fn repetitions(contender: &mut Contender, least: Duration) -> u32 {
+    let due = least * 2;
     let mut repeats = 1;
-    while measure(contender, repeats) < least * 2 {
+    let mut time = quickest(contender, repeats);
+    while time < due {
         repeats *= 2;
+        time = quickest(contender, repeats);
     }
-    repeats
+    (f64::from(repeats) * due.as_secs_f64() / time.as_secs_f64()).ceil() as u32
+}
+
+/// The least of some tries: an interruption lengthens one of them.
+fn quickest(contender: &mut Contender, repeats: u32) -> Duration {
+    let tries = (0..TRIES).map(|_| measure(contender, repeats));
+    tries.min().unwrap_or_default()
 }
 
 fn shuffled(length: usize, rng: &mut Rng) -> Vec<usize> {
