@@ -31,7 +31,7 @@ static const char *unwrap_parts(z_stream *stream)
         default: return "its gzip wrapper is damaged";
         }
     } while (begins_as_gzip(stream->next_in, stream->avail_in) && inflateReset(stream) == Z_OK);
-    /* once, not after each part: there may be as many parts as zeros */
+    /* once, not after each part: of a long file both the parts and the zeros may be very many */
     return is_padding(stream->next_in, stream->avail_in) ? NULL : "something else follows its gzip wrapper";
 }
 

@@ -156,7 +156,7 @@ bombs() {
 }
 check "100 MB in a wrapper are told at once, in little memory" bombs
 
-# as long as an input may be: parts of 20 bytes with nothing in them, 131,072 of them, and as many zeros behind
+# as long as an input may be: one half is 131,072 parts of 20 bytes with nothing in them, the other zeros
 many_parts() {
     local file=$work/many.gz again
     : | gzip -n >"$file"
