@@ -2,7 +2,7 @@
 
 use super::formats::FileFormat;
 use super::seen::NUMBERS;
-use super::{answer, note, outcome};
+use super::{answer, expect, note, outcome};
 use crate::lent::LentPart;
 use crate::report::{hex, Group, Outcome};
 use reference::machine::HEADER;
@@ -69,6 +69,21 @@ impl FileChecker {
             trip.map_err(|what| format!("read {}: {what}", hex(file)))?;
         }
         Ok(number)
+    }
+
+    /// Reads a file into areas and headers of right and wrong lengths, an area of `other` bytes among them: 20 comes before 1.
+    pub fn read_into_others(&mut self, group: &mut Group, file: &[u8], other: usize) -> Outcome {
+        for area in [0, 1, MEMORY - 1, MEMORY, MEMORY + 1, other] {
+            for header in [0, 1, 85, 86, 87, 300] {
+                let answer = self.read_into(group, file, area, header)?;
+                match (header, area) {
+                    (HEADER, MEMORY) => continue,
+                    (HEADER, _) => expect(answer, 1)?,
+                    _ => expect(answer, 20)?,
+                }
+            }
+        }
+        Ok(())
     }
 
     fn read_once(
