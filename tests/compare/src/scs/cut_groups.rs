@@ -45,23 +45,18 @@ pub fn short_files(group: &mut Group, check: &mut FileChecker, maker: &mut ScsMa
     Ok(())
 }
 
-/// Files with all the memory, cut at every byte of a 48K file; of a 128K file at every byte near its ends and near each
-/// block's head, and in many other places.
+/// Files with all the memory, cut at every byte.
 pub fn whole_files(group: &mut Group, check: &mut FileChecker, maker: &mut ScsMaker) -> Outcome {
-    for (model, pages, step) in [(Model::K48, 3, 1), (Model::K128, 8, 64)] {
+    for (model, pages) in [(Model::K48, 3), (Model::K128, 8)] {
         let mut sample = maker.short(model);
         *sample.data(MEMORY_BLOCK) = maker.rng.bytes(pages * PAGE);
         sample.tail = vec![0; 5];
         sample.blocks.push(SizedBlock::new(9, vec![1]));
         let sample = sample.sized();
         let file = sample.bytes();
-        let borders = sample.borders();
         for end in 0..=file.len() {
-            let is_near = borders.iter().any(|border| border.abs_diff(end) <= 16);
-            if is_near || end < 64 || file.len() - end <= 128 || end % step == 0 {
-                let answer = check.read_alone(group, &file[..end])?;
-                expect(answer, cut_number(&sample, end))?;
-            }
+            let answer = check.read_alone(group, &file[..end])?;
+            expect(answer, cut_number(&sample, end))?;
         }
     }
     Ok(())
