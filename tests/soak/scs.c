@@ -1,5 +1,6 @@
 /* Requests with SCS files. */
 #include "soak.h"
+#include "../scs_kept.h"
 #include <string.h>
 
 static struct made made;
@@ -7,21 +8,6 @@ static struct made made;
 static uint32_t read_file_as_scs(struct server_slot *slot, size_t length)
 {
     return snap_scs_read(made.file, length, slot->area, sizeof slot->area, slot->header, sizeof slot->header);
-}
-
-/* What an SCS file keeps of a machine: the rest is as from a v1 file, the clock's place 0. */
-static void scs_kept(uint8_t *header)
-{
-    unsigned low = is_128(header) ? 17726 : 17471;
-    header[SNAP_AT_SETTINGS] &= SNAP_SETTINGS_INTERRUPT_MODE;
-    header[SNAP_AT_MODE] = is_128(header) ? SNAP_MODE_128K : SNAP_MODE_48K;
-    header[SNAP_AT_INTERFACE_1_ROM] = header[SNAP_AT_EMULATION] = 0;
-    header[SNAP_AT_OUT_FFFD] &= 15;
-    header[SNAP_AT_LOW_COUNTER] = (uint8_t)low;
-    header[SNAP_AT_LOW_COUNTER + 1] = (uint8_t)(low / 256);
-    header[SNAP_AT_HIGH_COUNTER] = 3;
-    memset(header + SNAP_AT_MGT_ROM, 0, SNAP_HEADER_SIZE - SNAP_AT_MGT_ROM);
-    header[SNAP_AT_ROM_LOW] = header[SNAP_AT_ROM_HIGH] = 255;
 }
 
 /* A machine's SCS file is read into a slot that held another's. */

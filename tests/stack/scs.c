@@ -1,25 +1,11 @@
 /* SCS files made here and read, and machines written as SCS files. */
 #include "made.h"
 #include "stack.h"
+#include "../scs_kept.h"
 #include <string.h>
 
 #define CPU_BYTES 34u
 #define PORTS_BYTES 19u
-
-/* What an SCS file keeps of a machine: the rest is as from a v1 file, the clock's place 0. */
-static void scs_kept(uint8_t *header)
-{
-    unsigned low = is_128(header) ? 17726 : 17471;
-    header[SNAP_AT_SETTINGS] &= SNAP_SETTINGS_INTERRUPT_MODE;
-    header[SNAP_AT_MODE] = is_128(header) ? SNAP_MODE_128K : SNAP_MODE_48K;
-    header[SNAP_AT_INTERFACE_1_ROM] = header[SNAP_AT_EMULATION] = 0;
-    header[SNAP_AT_OUT_FFFD] &= 15;
-    header[SNAP_AT_LOW_COUNTER] = (uint8_t)low;
-    header[SNAP_AT_LOW_COUNTER + 1] = (uint8_t)(low / 256);
-    header[SNAP_AT_HIGH_COUNTER] = 3;
-    memset(header + SNAP_AT_MGT_ROM, 0, SNAP_HEADER_SIZE - SNAP_AT_MGT_ROM);
-    header[SNAP_AT_ROM_LOW] = header[SNAP_AT_ROM_HIGH] = 255;
-}
 
 /* Outputs of many lengths; what is written reads back as SCS keeps it, and the machine then stands as before. */
 void try_scs_writes(const char *name)

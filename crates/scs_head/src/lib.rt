@@ -14,6 +14,7 @@ pub enum ScsHead {
     Spectrum(Model),
 }
 
+// The Spectrum inside, or why the file is refused before its blocks are looked at.
 pub fn read_scs_head(file: &[u8]) -> ScsHead
     ensures { λ r. ⌜ r ≡ scsHeadOf (now (file .entry)) ⌝ }
 {

@@ -30,17 +30,22 @@ fn cut_number(sample: &ScsFileParts, end: usize) -> u32 {
     }
 }
 
+/// A good file, cut at every byte.
+fn every_cut(group: &mut Group, check: &mut FileChecker, sample: &ScsFileParts) -> Outcome {
+    let file = sample.bytes();
+    for end in 0..=file.len() {
+        let answer = check.read_alone(group, &file[..end])?;
+        expect(answer, cut_number(sample, end))?;
+    }
+    Ok(())
+}
+
 /// Short files of every kind, cut at every byte.
 pub fn short_files(group: &mut Group, check: &mut FileChecker, maker: &mut ScsMaker) -> Outcome {
     for case in 0..100 {
         let mut sample = maker.sample(MODELS[case % 2]);
         sample.data(MEMORY_BLOCK).truncate(60);
-        let sample = sample.sized();
-        let file = sample.bytes();
-        for end in 0..=file.len() {
-            let answer = check.read_alone(group, &file[..end])?;
-            expect(answer, cut_number(&sample, end))?;
-        }
+        every_cut(group, check, &sample.sized())?;
     }
     Ok(())
 }
@@ -52,12 +57,7 @@ pub fn whole_files(group: &mut Group, check: &mut FileChecker, maker: &mut ScsMa
         *sample.data(MEMORY_BLOCK) = maker.rng.bytes(pages * PAGE);
         sample.tail = vec![0; 5];
         sample.blocks.push(SizedBlock::new(9, vec![1]));
-        let sample = sample.sized();
-        let file = sample.bytes();
-        for end in 0..=file.len() {
-            let answer = check.read_alone(group, &file[..end])?;
-            expect(answer, cut_number(&sample, end))?;
-        }
+        every_cut(group, check, &sample.sized())?;
     }
     Ok(())
 }
