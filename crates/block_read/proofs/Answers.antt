@@ -15,10 +15,10 @@ use Rattle.packed.specs.declared.Unpacked.the-variants.{Good, WrongLength, Malf
 abbrev UnpackedSays : Found → ℕ → List ℕ → Unpacked → Type 0
 UnpackedSays u m d Good = (u ≡ bytes d) × (length d ≡ m)
 UnpackedSays u m d WrongLength = (xs : List ℕ) × ((u ≡ bytes xs) × (eqb (length xs) m ≡ false))
-UnpackedSays u m d Malformed = u ≡ malformed
+UnpackedSays u m d (Malformed i) = u ≡ malformed i
 
 unpacked-says : (u : Found) (m : ℕ) → UnpackedSays u m (leftBy u m) (answerOf u m)
-unpacked-says malformed m = refl
+unpacked-says (malformed i) m = refl
 unpacked-says (bytes xs) m = go (eqb (length xs) m) refl
   where
     go : (b : Bool) → eqb (length xs) m ≡ b → UnpackedSays (bytes xs) m (choose b xs (replicate m 0)) (choose b Good WrongLength)
@@ -32,15 +32,15 @@ module _ (u : Found) (n m : ℕ) (r : Unpacked) (d : List ℕ) (h : Unpacks u n 
   pub good-is : r ≡ Good → (u ≡ bytes d) × (length d ≡ m)
   good-is e = rw e at told-here
 
-  pub malformed-is : r ≡ Malformed → u ≡ malformed
-  malformed-is e = rw e at told-here
+  pub malformed-is : (i : ℕ) → r ≡ Malformed i → u ≡ malformed i
+  malformed-is i e = rw e at told-here
 
   pub wrong-is : r ≡ WrongLength → (xs : List ℕ) × ((u ≡ bytes xs) × (eqb (length xs) m ≡ false))
   wrong-is e = rw e at told-here
 
 -- a refused part is all zero
 left-zeros : (u : Found) (m : ℕ) → (answerOf u m ≡ Good → ⊥) → leftBy u m ≡ replicate m 0
-left-zeros malformed m f = refl
+left-zeros (malformed i) m f = refl
 left-zeros (bytes xs) m f = go (eqb (length xs) m) f
   where
     go : (b : Bool) → (choose b Good WrongLength ≡ Good → ⊥) → choose b xs (replicate m 0) ≡ replicate m 0

@@ -16,6 +16,7 @@ use Rattle.packed.specs.declared.Unpacked.{Unpacked}
 use Rattle.packed.specs.declared.Unpacked.the-variants.{Good, WrongLength}
 use Rattle.pages.specs.declared.Model.{Model}
 use Rattle.numbers.specs.declared.Refusal.the-variants.{BlockCut, BlockNumber, BlockTwice}
+use Rattle.numbers.specs.Faults.{faultAt}
 use Rattle.pages.proofs.PageSteps.{owned-small}
 use Rattle.block_pages.specs.declared.Page.{Page}
 use Rattle.block_pages.specs.declared.Page.the-variants.{At, NoPage}
@@ -29,14 +30,14 @@ use Rattle.block_read.specs.Inner.{Fills, headOn, headAt, Refuses}
 
 -- the block at a place is what the file's bytes from start to end give for a page
 pub record BlockAt (model : Model) (seen : List Bool) (file : List ℕ) (at page start end : ℕ) (plain : Bool) : Type 0 where
-  pub block : blockOf model seen (drop at file) ≡ pageFrom (contents plain (take (end - start) (drop start file))) page (drop end file)
+  pub block : blockOf model seen at (drop at file) ≡ pageFrom at (contents plain (take (end - start) (drop start file))) page (drop end file)
   pub page-small : page < 8
-  pub further : at < start
+  pub behind : start ≡ at + 3
   pub ordered : start ≤ end
   pub within : end ≤ length file
 
 abbrev pub HeadSays : Model → List Bool → List ℕ → ℕ → BlockHead → Type 0
-HeadSays model seen file at (Bad why) = Refuses model seen file at why
+HeadSays model seen file at (Bad why) = Refuses model seen file at (faultAt at why)
 HeadSays model seen file at (Data page start end plain) = BlockAt model seen file at page start end plain
 
 pub page-small : (k : Model) (n : ℕ) (f : Page) (p : ℕ) → f ≡ pageOf k n → f ≡ At p → p < 8
@@ -73,10 +74,10 @@ module _ (model : Model) (seen : List Bool) (file : List ℕ) (at : ℕ) where
     head-data f p g e z s = sym (head-opened g ∙ rw (← e, z, s))
 
   -- the block, with the file's own bytes in its tests
-  block-tests : blockOf model seen (drop at file)
-      ≡ choose (ltb (length file - at) 3) (refused BlockCut)
-      (choose (ltb (length file - at) (3 + sizeOf (wordAt file at))) (refused BlockCut)
-      (onPage (pageOf model (getD file (at + 2) 0)) seen
+  block-tests : blockOf model seen at (drop at file)
+      ≡ choose (ltb (length file - at) 3) (refused (faultAt at BlockCut))
+      (choose (ltb (length file - at) (3 + sizeOf (wordAt file at))) (refused (faultAt at BlockCut))
+      (onPage at (pageOf model (getD file (at + 2) 0)) seen
       (contents (eqb (wordAt file at) 65535) (take (sizeOf (wordAt file at)) (drop (at + 3) file)))
       (drop (at + (3 + sizeOf (wordAt file at))) file)))
   unfolding blockOf
@@ -106,7 +107,7 @@ module _ (model : Model) (seen : List Bool) (file : List ℕ) (at : ℕ) where
               record {
                 block = block-tests ∙ rw (le-ltb _ _ h, g, q, s, a, b);
                 page-small = page-small model _ (At p) p (sym q) refl;
-                further = omega arith;
+                behind = refl;
                 ordered = omega arith;
                 within = omega (arith, ltb-false (length file - at) (3 + size) g);
               }

@@ -1,20 +1,22 @@
 -- The block at a place of the file, read into its page: each return of `read_block`.
 use Prim.Native.Nat.{ℕ, _+_, _-_, _*_, _<_, _≤_}
-use mathlib.Core.Path.{_≡_, subst, _∙_}
-use mathlib.Core.Bool.{Bool}
+use mathlib.Core.Path.{_≡_, sym, ap, subst, _∙_}
+use mathlib.Core.Bool.{Bool, true, false}
 use mathlib.Core.List.{List}
 use native.Mathlib.Omega.{arith}
 use lib.ListN.{length, take, drop, length-drop, length-take}
 use lib.Seq.{drop-drop}
 use borrow.Rule.Slice.PartMut.{putMid}
 use Rattle.slices.specs.Put.{put}
-use Rattle.packed.specs.Packed.{Found}
+use Rattle.packed.specs.Packed.{Found, malformed}
+use Rattle.packed.specs.Packed.Promise.{bad-inside}
 use Rattle.packed.specs.Unpacking.{Unpacks}
 use Rattle.packed.specs.declared.Unpacked.{Unpacked}
 use Rattle.packed.specs.declared.Unpacked.the-variants.{Good, WrongLength, Malformed}
 use Rattle.pages.specs.declared.Model.{Model}
 use Rattle.numbers.specs.declared.Refusal.{Refusal}
 use Rattle.numbers.specs.declared.Refusal.the-variants.{MalformedData, UnpackedLength}
+use Rattle.numbers.specs.Faults.{faultAt}
 use Rattle.block_read.specs.declared.BlockHead.{BlockHead}
 use Rattle.block_read.specs.declared.BlockHead.the-variants.{Bad, Data}
 use Rattle.block_read.specs.Block.{refused, brought, contents, pageFrom}
@@ -24,17 +26,21 @@ use Rattle.block_read.proofs.BlockHeads.{BlockAt, HeadSays, head-says}
 use Rattle.blocks.specs.Inner.{Brings}
 
 -- the page that a lent part of 16,384 bytes gives
-module _ (u : Found) (n : ℕ) (r : Unpacked) (part : List ℕ) (f : Unpacks u n r part) (l : n ≡ 16384) (page : ℕ) (rest : List ℕ) where
-  page-good : r ≡ Good → pageFrom u page rest ≡ brought page part rest
+module _ (at : ℕ) (u : Found) (n : ℕ) (r : Unpacked) (part : List ℕ) (f : Unpacks u n r part) (l : n ≡ 16384) (page : ℕ) (rest : List ℕ) where
+  page-good : r ≡ Good → pageFrom at u page rest ≡ brought page part rest
   page-good e = let w = good-is u n 16384 r part f l e in rw (w .0, w .1)
 
-  page-malformed : r ≡ Malformed → pageFrom u page rest ≡ refused MalformedData
-  page-malformed e = rw (malformed-is u n 16384 r part f l e)
+  page-malformed : (i : ℕ) → r ≡ Malformed i → pageFrom at u page rest ≡ refused (faultAt (at + 3 + i) MalformedData)
+  page-malformed i e = rw (malformed-is u n 16384 r part f l i e)
 
-  page-wrong : r ≡ WrongLength → pageFrom u page rest ≡ refused UnpackedLength
+  page-wrong : r ≡ WrongLength → pageFrom at u page rest ≡ refused (faultAt at UnpackedLength)
   page-wrong e = let w = wrong-is u n 16384 r part f l e in rw (w .1 .0, w .1 .1)
 
-pub head-refuses : (k : Model) (seen : List Bool) (file : List ℕ) (at : ℕ) (h : BlockHead) (n : Refusal) → at < length file → h ≡ headAt k seen file at → h ≡ Bad n → Refuses k seen file at n
+found-inside : (plain : Bool) (body : List ℕ) (i : ℕ) → contents plain body ≡ malformed i → i < length body
+found-inside true body i e = let z : _≡_ {A = ℕ} 0 1 = cc in absurd (omega arith)
+found-inside false body i e = bad-inside body i e
+
+pub head-refuses : (k : Model) (seen : List Bool) (file : List ℕ) (at : ℕ) (h : BlockHead) (n : Refusal) → at < length file → h ≡ headAt k seen file at → h ≡ Bad n → Refuses k seen file at (faultAt at n)
 head-refuses k seen file at h n l s e = subst (HeadSays k seen file at) e (head-says k seen file at h l s)
 
 page-part-long : (before : List ℕ) (page : ℕ) → page < 8 → length before ≡ 131072 → length (take (page * 16384 + 16384 - page * 16384) (drop (page * 16384) before)) ≡ 16384
@@ -67,17 +73,27 @@ module _ (k : Model) (seen : List Bool) (file : List ℕ) (at : ℕ) (head : Blo
         let d : page * 16384 + 16384 - page * 16384 ≡ 16384 = omega arith in
         record {
           page-bytes = part;
-          block = head-holds .block ∙ page-good _ _ r part data-fills n page (drop end file) e;
+          block = head-holds .block ∙ page-good at _ _ r part data-fills n page (drop end file) e;
           placed = rw (w .1, d, drop-drop 16384 (page * 16384) before);
           page-small = head-holds .page-small;
           further = omega (arith, head-holds);
           within = head-holds .within;
         }
 
-    pub malformed-block : r ≡ Malformed → Refuses k seen file at MalformedData
-    malformed-block e =
-        record { block = head-holds .block ∙ page-malformed _ _ r part data-fills (page-part-long before page (head-holds .page-small) l) page (drop end file) e }
+    -- a bad code is among the data
+    pub bad-code-within : (i : ℕ) → r ≡ Malformed i → start + i < length file
+    bad-code-within i e =
+        let h = found-inside plain _ i (malformed-is _ _ 16384 r part data-fills (page-part-long before page (head-holds .page-small) l) i e) in
+        omega (arith, head-holds, length-take (end - start) (drop start file))
 
-    pub wrong-block : r ≡ WrongLength → Refuses k seen file at UnpackedLength
+    pub malformed-block : (i : ℕ) → r ≡ Malformed i → Refuses k seen file at (faultAt (start + i) MalformedData)
+    malformed-block i e =
+        record {
+          block =
+              head-holds .block ∙ page-malformed at _ _ r part data-fills (page-part-long before page (head-holds .page-small) l) page (drop end file) i e
+              ∙ ap (λ (j : ℕ). refused (faultAt (j + i) MalformedData)) (sym (head-holds .behind));
+        }
+
+    pub wrong-block : r ≡ WrongLength → Refuses k seen file at (faultAt at UnpackedLength)
     wrong-block e =
-        record { block = head-holds .block ∙ page-wrong _ _ r part data-fills (page-part-long before page (head-holds .page-small) l) page (drop end file) e }
+        record { block = head-holds .block ∙ page-wrong at _ _ r part data-fills (page-part-long before page (head-holds .page-small) l) page (drop end file) e }

@@ -15,7 +15,8 @@ use Rattle.slices.specs.Put.{put}
 use Rattle.slices.proofs.Chosen.{either}
 use Rattle.packed.specs.Packed.{Found, malformed, bytes}
 use Rattle.pages.specs.declared.Model.{Model}
-use Rattle.numbers.specs.declared.Refusal.{Refusal}
+use Rattle.numbers.specs.declared.Fault.{Fault}
+use Rattle.numbers.specs.Faults.{faultAt}
 use Rattle.numbers.specs.declared.Refusal.the-variants.{BlockCut, BlockTwice, UnpackedLength}
 use Rattle.block_pages.specs.declared.Page.{Page}
 use Rattle.block_pages.specs.declared.Page.the-variants.{At, NoPage}
@@ -37,28 +38,28 @@ left-set (true ∷ l) (suc p) h e = left-set l p (le-of-suc-le-suc h) e
 left-set (false ∷ l) (suc p) h e = ap suc (left-set l p (le-of-suc-le-suc h) e)
 
 -- a block that is taken lies on a page that was not seen, and is followed by what stands behind it
-module _ (P : Type 0) (seen : List Bool) (r a : List ℕ) (f : ℕ → List ℕ → List ℕ → BodyResult)
+module _ (P : Type 0) (seen : List Bool) (place : ℕ) (r a : List ℕ) (f : ℕ → List ℕ → List ℕ → BodyResult)
     (k : (page : ℕ) (xs : List ℕ) → page < 8 → getD seen page false ≡ false → f page xs r ≡ bodyRead a → P) where
-  past-check : (b : Bool) (why : Refusal) (x : Block) → (b ≡ false → afterBlock x f ≡ bodyRead a → P) → afterBlock (choose b (refused why) x) f ≡ bodyRead a → P
-  past-check true why x g e = let z : _≡_ {A = ℕ} 0 1 = cc in absurd (omega arith)
-  past-check false why x g e = g refl e
+  past-check : (b : Bool) (fault : Fault) (x : Block) → (b ≡ false → afterBlock x f ≡ bodyRead a → P) → afterBlock (choose b (refused fault) x) f ≡ bodyRead a → P
+  past-check true fault x g e = let z : _≡_ {A = ℕ} 0 1 = cc in absurd (omega arith)
+  past-check false fault x g e = g refl e
 
-  past-data : (d : Found) (page : ℕ) → page < 8 → getD seen page false ≡ false → afterBlock (pageFrom d page r) f ≡ bodyRead a → P
-  past-data malformed page h c e = let z : _≡_ {A = ℕ} 0 1 = cc in absurd (omega arith)
+  past-data : (d : Found) (page : ℕ) → page < 8 → getD seen page false ≡ false → afterBlock (pageFrom place d page r) f ≡ bodyRead a → P
+  past-data (malformed i) page h c e = let z : _≡_ {A = ℕ} 0 1 = cc in absurd (omega arith)
   past-data (bytes xs) page h c e = go (eqb (length xs) 16384) e
     where
-      go : (b : Bool) → afterBlock (choose b (brought page xs r) (refused UnpackedLength)) f ≡ bodyRead a → P
+      go : (b : Bool) → afterBlock (choose b (brought page xs r) (refused (faultAt place UnpackedLength))) f ≡ bodyRead a → P
       go true q = k page xs h c q
       go false q = let z : _≡_ {A = ℕ} 0 1 = cc in absurd (omega arith)
 
-  past-number : (model : Model) (n : ℕ) (p : Page) (d : Found) → p ≡ pageOf model n → afterBlock (onPage p seen d r) f ≡ bodyRead a → P
+  past-number : (model : Model) (n : ℕ) (p : Page) (d : Found) → p ≡ pageOf model n → afterBlock (onPage place p seen d r) f ≡ bodyRead a → P
   past-number model n NoPage d q e = let z : _≡_ {A = ℕ} 0 1 = cc in absurd (omega arith)
-  past-number model n (At p) d q e = past-check (getD seen p false) BlockTwice (pageFrom d p r) (past-data d p (page-small model n (At p) p q refl)) e
+  past-number model n (At p) d q e = past-check (getD seen p false) (faultAt place BlockTwice) (pageFrom place d p r) (past-data d p (page-small model n (At p) p q refl)) e
 
-  past-block : (model : Model) (s : List ℕ) → r ≡ drop (3 + sizeOf (wordAt s 0)) s → afterBlock (blockOf model seen s) f ≡ bodyRead a → P
+  past-block : (model : Model) (s : List ℕ) → r ≡ drop (3 + sizeOf (wordAt s 0)) s → afterBlock (blockOf model seen place s) f ≡ bodyRead a → P
   unfolding blockOf
   past-block model s q e =
-      past-check (ltb (length s) 3) BlockCut _ (λ t. past-check (ltb (length s) (3 + sizeOf (wordAt s 0))) BlockCut _ (λ t. past-number model (getD s 2 0) (pageOf model (getD s 2 0)) _ refl))
+      past-check (ltb (length s) 3) (faultAt place BlockCut) _ (λ t. past-check (ltb (length s) (3 + sizeOf (wordAt s 0))) (faultAt place BlockCut) _ (λ t. past-number model (getD s 2 0) (pageOf model (getD s 2 0)) _ refl))
       (rw (← q) at e)
 
 size-most : (s : List ℕ) → ((i : ℕ) → getD s i 0 < 256) → sizeOf (wordAt s 0) ≤ 65534
@@ -66,20 +67,20 @@ size-most s w =
     either (λ (n : ℕ). n ≤ 65534) (eqb (wordAt s 0) 65535) 16384 (wordAt s 0) (λ e. omega arith)
     (λ e. omega (arith, eqb-false (wordAt s 0) 65535 e, w 0, w 1))
 
-all-most : (model : Model) (turns : ℕ) (seen : List Bool) (area s a : List ℕ) → ((i : ℕ) → getD s i 0 < 256) → length seen ≡ 8 → length s ≤ turns
-    → blocks model turns seen area s ≡ bodyRead a → length s ≤ 65537 * left seen
+all-most : (model : Model) (turns : ℕ) (seen : List Bool) (area : List ℕ) (place : ℕ) (s a : List ℕ) → ((i : ℕ) → getD s i 0 < 256) → length seen ≡ 8 → length s ≤ turns
+    → blocks model turns seen area place s ≡ bodyRead a → length s ≤ 65537 * left seen
 unfolding blocks
-all-most model zero seen area s a w l t e = omega arith
-all-most model (suc turns) seen area s a w l t e =
+all-most model zero seen area place s a w l t e = omega arith
+all-most model (suc turns) seen area place s a w l t e =
     let k = 3 + sizeOf (wordAt s 0) in
     either (λ (x : BodyResult). x ≡ bodyRead a → length s ≤ 65537 * left seen) (eqb (length s) 0) _ _ (λ z q. omega (arith, eqb-true (length s) 0 z))
-    (λ z. past-block (length s ≤ 65537 * left seen) seen (drop k s) a _
+    (λ z. past-block (length s ≤ 65537 * left seen) seen place (drop k s) a _
     (λ page xs h c q.
-    let ih = all-most model turns (set seen page true) (put area (page * 16384) xs) (drop k s) a (λ i. rw (getD-drop k s i 0) (w (k + i)))
+    let ih = all-most model turns (set seen page true) (put area (page * 16384) xs) _ (drop k s) a (λ i. rw (getD-drop k s i 0) (w (k + i)))
     (length-set seen page true ∙ l) (omega (arith, length-drop k s, eqb-false (length s) 0 z)) q in
     omega (arith, size-most s w, length-drop k s, left-set seen page (omega arith) c)) model s refl) e
 
 -- eight blocks at most, no page coming twice, of 3 + 65,534 bytes at most
-pub blocks-most : (model : Model) (area s a : List ℕ) → ((i : ℕ) → getD s i 0 < 256) → blocksInto model area s ≡ bodyRead a → length s ≤ 524296
+pub blocks-most : (model : Model) (area : List ℕ) (place : ℕ) (s a : List ℕ) → ((i : ℕ) → getD s i 0 < 256) → blocksInto model area place s ≡ bodyRead a → length s ≤ 524296
 unfolding blocksInto left
-blocks-most model area s a w e = omega (arith, all-most model (length s) noneSeen area s a w refl (omega arith) e)
+blocks-most model area place s a w e = omega (arith, all-most model (length s) noneSeen area place s a w refl (omega arith) e)

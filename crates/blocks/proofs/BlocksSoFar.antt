@@ -1,5 +1,5 @@
 -- The loop over the blocks: what is left of the file, read on from here, comes to what the whole comes to.
-use Prim.Native.Nat.{ℕ, zero, suc, _-_, _*_, _<_, _≤_}
+use Prim.Native.Nat.{ℕ, zero, suc, _+_, _-_, _*_, _<_, _≤_}
 use mathlib.Core.Path.{_≡_, refl, sym, ap, subst, _∙_}
 use mathlib.Core.Bool.{Bool, true, false}
 use mathlib.Core.List.{List}
@@ -10,10 +10,11 @@ use Rattle.slices.specs.Choose.{choose}
 use Rattle.slices.specs.Put.{put}
 use Rattle.slices.specs.Blank.{blank}
 use Rattle.pages.specs.declared.Model.{Model}
-use Rattle.numbers.specs.declared.Refusal.{Refusal}
 use Rattle.numbers.specs.declared.Refusal.the-variants.{BlockMissing}
-use Rattle.numbers.specs.declared.Answer.{Answer}
-use Rattle.numbers.specs.declared.Answer.the-variants.{Accepted}
+use Rattle.numbers.specs.declared.Fault.{Fault}
+use Rattle.numbers.specs.Faults.{unplaced}
+use Rattle.blocks.specs.declared.BodyAnswer.{BodyAnswer}
+use Rattle.blocks.specs.declared.BodyAnswer.the-variants.{Whole}
 use Rattle.blocks.specs.declared.BlockStep.{BlockStep}
 use Rattle.blocks.specs.declared.BlockStep.the-variants.{Failed, Next}
 use Rattle.block_read.specs.Block.{Block, blockOf}
@@ -25,25 +26,29 @@ use Rattle.blocks.specs.Inner.{Brings, StepSays}
 pub record BlocksSoFar (model : Model) (file : List ℕ) (all : BodyResult) (area : List ℕ) (seen : List Bool) (at : ℕ) : Type 0 where
   pub turns : ℕ
   pub enough : length file - at ≤ turns
-  pub same : blocks model turns seen area (drop at file) ≡ all
+  pub same : blocks model turns seen area at (drop at file) ≡ all
 
 pub blocks-begin : (model : Model) (file : List ℕ) (area : List ℕ) (from : ℕ)
-    → BlocksSoFar model file (blocksInto model area (drop from file)) area noneSeen from
+    → BlocksSoFar model file (blocksInto model area from (drop from file)) area noneSeen from
 unfolding blocksInto
 blocks-begin model file area from = record { turns = length (drop from file); enough = omega (arith, length-drop from file); same = refl }
 
+-- what follows a block
+abbrev pub onward : Model → ℕ → List Bool → List ℕ → ℕ → List ℕ → ℕ → List ℕ → List ℕ → BodyResult
+onward model turns seen area place s page xs rest = blocks model turns (set seen page true) (put area (page * 16384) xs) (place + (length s - length rest)) rest
+
 -- one turn of the definition, where there is a byte left
-pub turn : (model : Model) (turns : ℕ) (seen : List Bool) (area s : List ℕ) → 0 < length s
-    → blocks model (suc turns) seen area s
-    ≡ afterBlock (blockOf model seen s) (λ page xs rest. blocks model turns (set seen page true) (put area (page * 16384) xs) rest)
+pub turn : (model : Model) (turns : ℕ) (seen : List Bool) (area : List ℕ) (place : ℕ) (s : List ℕ) → 0 < length s
+    → blocks model (suc turns) seen area place s ≡ afterBlock (blockOf model seen place s) (onward model turns seen area place s)
 unfolding blocks
-turn model turns seen area s h = rw (ne-eqb (length s) 0 (λ e. omega arith))
+turn model turns seen area place s h = rw (ne-eqb (length s) 0 (λ e. omega arith))
 
 -- the end
-pub ended : (model : Model) (turns : ℕ) (seen : List Bool) (area s : List ℕ) → length s ≡ 0 → blocks model turns seen area s ≡ finished model seen area
+pub ended : (model : Model) (turns : ℕ) (seen : List Bool) (area : List ℕ) (place : ℕ) (s : List ℕ) → length s ≡ 0
+    → blocks model turns seen area place s ≡ finished model seen area
 unfolding blocks
-ended model zero seen area s h = refl
-ended model (suc turns) seen area s h = rw (eq-eqb (length s) 0 h)
+ended model zero seen area place s h = refl
+ended model (suc turns) seen area place s h = rw (eq-eqb (length s) 0 h)
 
 -- a step that brought a page
 module _ (model : Model) (file area after : List ℕ) (seen : List Bool) (at : ℕ) (step : BlockStep) (page next : ℕ) (s : StepSays model seen file at area after step) (e : step ≡ Next page next) where
@@ -59,45 +64,45 @@ module _ (model : Model) (file area after : List ℕ) (seen : List Bool) (at : �
 module _ (model : Model) (file : List ℕ) (all : BodyResult) (area : List ℕ) (seen : List Bool) (at : ℕ) (g : BlocksSoFar model file all area seen at) where
   -- with a byte left there is a turn left
   block-ahead : at < length file
-      → (t : ℕ) × ((length file - at ≤ suc t)
-      × (afterBlock (blockOf model seen (drop at file)) (λ page xs rest. blocks model t (set seen page true) (put area (page * 16384) xs) rest) ≡ all))
+      → (t : ℕ) × ((length file - at ≤ suc t) × (afterBlock (blockOf model seen at (drop at file)) (onward model t seen area at (drop at file)) ≡ all))
   block-ahead h = go (g .turns) (g .enough) (g .same)
     where
-      go : (t : ℕ) → length file - at ≤ t → blocks model t seen area (drop at file) ≡ all
-          → (t : ℕ) × ((length file - at ≤ suc t)
-          × (afterBlock (blockOf model seen (drop at file)) (λ page xs rest. blocks model t (set seen page true) (put area (page * 16384) xs) rest) ≡ all))
+      go : (t : ℕ) → length file - at ≤ t → blocks model t seen area at (drop at file) ≡ all
+          → (t : ℕ) × ((length file - at ≤ suc t) × (afterBlock (blockOf model seen at (drop at file)) (onward model t seen area at (drop at file)) ≡ all))
       go zero e q = absurd (omega arith)
-      go (suc t) e q = (t, (e, sym (turn model t seen area (drop at file) (omega (arith, length-drop at file))) ∙ q))
+      go (suc t) e q = (t, (e, sym (turn model t seen area at (drop at file) (omega (arith, length-drop at file))) ∙ q))
 
   pub blocks-more : (after : List ℕ) (step : BlockStep) (page next : ℕ) → at < length file → StepSays model seen file at area after step → step ≡ Next page next
       → BlocksSoFar model file all after (set seen page true) next
   blocks-more after step page next h s e =
       let b = step-brings model file area after seen at step page next s e in
       let r = block-ahead h in
+      let q : next ≡ at + (length (drop at file) - length (drop next file)) = omega (arith, b .further, b .within, length-drop at file, length-drop next file) in
       record {
         turns = r .0;
         enough = omega (arith, r .1 .0, b .further);
         same =
-            ap (λ (l : List ℕ). blocks model (r .0) (set seen page true) l (drop next file)) (b .placed)
-            ∙ sym (ap (λ (x : Block). afterBlock x (λ page xs rest. blocks model (r .0) (set seen page true) (put area (page * 16384) xs) rest)) (b .block))
+            ap (λ (l : List ℕ). blocks model (r .0) (set seen page true) l next (drop next file)) (b .placed)
+            ∙ ap (λ (n : ℕ). blocks model (r .0) (set seen page true) (put area (page * 16384) (b .page-bytes)) n (drop next file)) q
+            ∙ sym (ap (λ (x : Block). afterBlock x (onward model (r .0) seen area at (drop at file))) (b .block))
             ∙ r .1 .1;
       }
 
-  pub going-stop : (after clear : List ℕ) (step : BlockStep) (n : Refusal) (r : Answer) → at < length file → StepSays model seen file at area after step → step ≡ Failed n
+  pub going-stop : (after clear : List ℕ) (step : BlockStep) (n : Fault) (r : BodyAnswer) → at < length file → StepSays model seen file at area after step → step ≡ Failed n
       → ReadsBody (bodyRefused n) r clear → ReadsBody all r clear
   going-stop after clear step n r h s e t =
       let b : Refuses model seen file at n = subst (StepSays model seen file at area after) e s in
       let o = block-ahead h in
-      let q : bodyRefused n ≡ all = sym (ap (λ (x : Block). afterBlock x (λ page xs rest. blocks model (o .0) (set seen page true) (put area (page * 16384) xs) rest)) (b .block)) ∙ o .1 .1 in
+      let q : bodyRefused n ≡ all = sym (ap (λ (x : Block). afterBlock x (onward model (o .0) seen area at (drop at file))) (b .block)) ∙ o .1 .1 in
       subst (λ (x : BodyResult). ReadsBody x r clear) q t
 
-  at-end : length file ≤ at → (b : Bool) → b ≡ allThere model seen → choose b (bodyRead area) (bodyRefused BlockMissing) ≡ all
-  at-end h b e = ap (λ (x : Bool). choose x (bodyRead area) (bodyRefused BlockMissing)) e ∙ sym (ended model (g .turns) seen area (drop at file) (length-drop at file ∙ omega arith)) ∙ g .same
+  at-end : length file ≤ at → (b : Bool) → b ≡ allThere model seen → choose b (bodyRead area) (bodyRefused (unplaced BlockMissing)) ≡ all
+  at-end h b e = ap (λ (x : Bool). choose x (bodyRead area) (bodyRefused (unplaced BlockMissing))) e ∙ sym (ended model (g .turns) seen area at (drop at file) (length-drop at file ∙ omega arith)) ∙ g .same
 
-  pub going-all : (b : Bool) → length file ≤ at → b ≡ allThere model seen → b ≡ true → ReadsBody all Accepted area
-  going-all b h e t = subst (λ (x : BodyResult). ReadsBody x Accepted area) (rw t at (at-end h b e)) (refl, refl)
+  pub going-all : (b : Bool) → length file ≤ at → b ≡ allThere model seen → b ≡ true → ReadsBody all Whole area
+  going-all b h e t = subst (λ (x : BodyResult). ReadsBody x Whole area) (rw t at (at-end h b e)) (refl, refl)
 
-  pub going-missing : (b : Bool) (clear : List ℕ) (r : Answer) → length file ≤ at → b ≡ allThere model seen → b ≡ false → ReadsBody (bodyRefused BlockMissing) r clear → ReadsBody all r clear
+  pub going-missing : (b : Bool) (clear : List ℕ) (r : BodyAnswer) → length file ≤ at → b ≡ allThere model seen → b ≡ false → ReadsBody (bodyRefused (unplaced BlockMissing)) r clear → ReadsBody all r clear
   going-missing b clear r h e t q = subst (λ (x : BodyResult). ReadsBody x r clear) (rw t at (at-end h b e)) q
 
 -- the whole area filled with zeros

@@ -1,5 +1,5 @@
 -- Document 01, "Packed data": "blocks to the end of the file, each a two-byte length, a page number, data".
-use Prim.Native.Nat.{ℕ, zero, suc, _*_}
+use Prim.Native.Nat.{ℕ, zero, suc, _+_, _-_, _*_}
 use mathlib.Core.Path.{_≡_}
 use mathlib.Core.Bool.{Bool, true, false}
 use mathlib.Core.List.{List}
@@ -9,42 +9,44 @@ use Rattle.slices.specs.Choose.{choose}
 use Rattle.slices.specs.Put.{put}
 use Rattle.slices.specs.Blank.{blank}
 use Rattle.pages.specs.declared.Model.{Model}
-use Rattle.numbers.specs.declared.Refusal.{Refusal}
 use Rattle.numbers.specs.declared.Refusal.the-variants.{BlockMissing}
-use Rattle.numbers.specs.declared.Answer.{Answer}
-use Rattle.numbers.specs.declared.Answer.the-variants.{Accepted, Refused}
+use Rattle.numbers.specs.declared.Fault.{Fault}
+use Rattle.numbers.specs.Faults.{unplaced}
 use Rattle.block_pages.specs.Numbered.{allThere}
 use Rattle.block_read.specs.Block.{Block, refused, brought, blockOf}
+use Rattle.blocks.specs.declared.BodyAnswer.{BodyAnswer}
+use Rattle.blocks.specs.declared.BodyAnswer.the-variants.{Whole, Faulty}
 
--- what reading the body of a file comes to: a refusal, or the whole area
+-- what reading the body of a file comes to: a fault, or the whole area
 pub data BodyResult : Type 0 where
-  bodyRefused : Refusal → BodyResult
+  bodyRefused : Fault → BodyResult
   bodyRead : List ℕ → BodyResult
 
 -- what reading a body answers and leaves in the area. "A refused read gives .. an area all zero"
-abbrev pub ReadsBody : BodyResult → Answer → List ℕ → Type 0
-ReadsBody (bodyRefused why) r after = (r ≡ Refused why) × (after ≡ blank 131072)
-ReadsBody (bodyRead area) r after = (r ≡ Accepted) × (after ≡ area)
+abbrev pub ReadsBody : BodyResult → BodyAnswer → List ℕ → Type 0
+ReadsBody (bodyRefused fault) r after = (r ≡ Faulty fault) × (after ≡ blank 131072)
+ReadsBody (bodyRead area) r after = (r ≡ Whole) × (after ≡ area)
 
 abbrev pub afterBlock : Block → (ℕ → List ℕ → List ℕ → BodyResult) → BodyResult
-afterBlock (refused why) f = bodyRefused why
+afterBlock (refused fault) f = bodyRefused fault
 afterBlock (brought page xs rest) f = f page xs rest
 
 -- "last 13"
 abbrev pub finished : Model → List Bool → List ℕ → BodyResult
-finished model seen area = choose (allThere model seen) (bodyRead area) (bodyRefused BlockMissing)
+finished model seen area = choose (allThere model seen) (bodyRead area) (bodyRefused (unplaced BlockMissing))
 
--- block after block to the end; a block has three bytes or more, so as many turns as bytes are enough
-unfoldable pub blocks : Model → ℕ → List Bool → List ℕ → List ℕ → BodyResult
-blocks model zero seen area s = finished model seen area
-blocks model (suc turns) seen area s =
+-- block after block from a place of the file, where s stands, to the end; a block has three bytes or more, so as many turns as bytes are enough
+unfoldable pub blocks : Model → ℕ → List Bool → List ℕ → ℕ → List ℕ → BodyResult
+blocks model zero seen area place s = finished model seen area
+blocks model (suc turns) seen area place s =
     choose (eqb (length s) 0)
     (finished model seen area)
-    (afterBlock (blockOf model seen s) (λ page xs rest. blocks model turns (set seen page true) (put area (page * 16384) xs) rest))
+    (afterBlock (blockOf model seen place s)
+    (λ page xs rest. blocks model turns (set seen page true) (put area (page * 16384) xs) (place + (length s - length rest)) rest))
 
 abbrev pub noneSeen : List Bool
 noneSeen = replicate 8 false
 
--- the blocks s read into an area
-unfoldable pub blocksInto : Model → List ℕ → List ℕ → BodyResult
-blocksInto model area s = blocks model (length s) noneSeen area s
+-- the blocks s, from a place of the file on, read into an area
+unfoldable pub blocksInto : Model → List ℕ → ℕ → List ℕ → BodyResult
+blocksInto model area place s = blocks model (length s) noneSeen area place s

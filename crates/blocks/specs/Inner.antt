@@ -14,12 +14,12 @@ use Rattle.blocks.specs.declared.BlockStep.the-variants.{Failed, Next}
 -- a block that was read: its bytes stand in their page
 pub record Brings (model : Model) (seen : List Bool) (file : List ℕ) (at : ℕ) (before after : List ℕ) (page next : ℕ) : Type 0 where
   pub page-bytes : List ℕ
-  pub block : blockOf model seen (drop at file) ≡ brought page page-bytes (drop next file)
+  pub block : blockOf model seen at (drop at file) ≡ brought page page-bytes (drop next file)
   pub placed : after ≡ put before (page * 16384) page-bytes
   pub page-small : page < 8
   pub further : at < next
   pub within : next ≤ length file
 
 abbrev pub StepSays : Model → List Bool → List ℕ → ℕ → List ℕ → List ℕ → BlockStep → Type 0
-StepSays model seen file at before after (Failed why) = Refuses model seen file at why
+StepSays model seen file at before after (Failed fault) = Refuses model seen file at fault
 StepSays model seen file at before after (Next page next) = Brings model seen file at before after page next

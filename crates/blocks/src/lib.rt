@@ -1,6 +1,6 @@
 // The blocks of a v2 or v3 file read into the pages of a lent area, one after the other.
 use block_read::BlockHead;
-use numbers::Answer;
+use numbers::Fault;
 use numbers::Refusal;
 use packed::Unpacked;
 use pages::Model;
@@ -10,22 +10,28 @@ ghost use lib.ListN.{length, drop};
 ghost use Rattle.blocks.specs.Blocks.{blocksInto, bodyRefused, ReadsBody};
 ghost use Rattle.blocks.specs.Inner.{StepSays};
 
-// Where the next block begins, or a refusal.
+// What reading the body of a file comes to.
+pub enum BodyAnswer {
+    Whole,
+    Faulty(Fault),
+}
+
+// Where the next block begins, or a fault.
 enum BlockStep {
-    Failed(Refusal),
+    Failed(Fault),
     Next { page: usize, at: usize },
 }
 
 // Block after block from a place to the end of the file. Refused, the area is all zero.
-pub fn read_blocks(file: &[u8], from: usize, model: Model, area: &mut [u8]) -> Answer
+pub fn read_blocks(file: &[u8], from: usize, model: Model, area: &mut [u8]) -> BodyAnswer
     requires { ⌜ length (now area) ≡ 131072 ⌝ }
-    ensures { λ r. ⌜ ReadsBody (blocksInto model (now (area .entry)) (drop from (now (file .entry)))) r (now (area .exit)) ⌝ }
+    ensures { λ r. ⌜ ReadsBody (blocksInto model (now (area .entry)) from (drop from (now (file .entry)))) r (now (area .exit)) ⌝ }
 {
     let mut seen = [false; 8];
     let mut at = from;
     while at < file.len() {
         match read_block(file, at, model, seen, area) {
-            BlockStep::Failed(why) => return refused_area(area, why),
+            BlockStep::Failed(fault) => return refused_area(area, fault),
             BlockStep::Next { page, at: next } => {
                 seen[page] = true;
                 at = next;
@@ -33,17 +39,23 @@ pub fn read_blocks(file: &[u8], from: usize, model: Model, area: &mut [u8]) -> A
         }
     }
     if block_pages::all_there(model, seen) {
-        return Answer::Accepted;
+        return BodyAnswer::Whole;
     }
-    refused_area(area, Refusal::BlockMissing)
+    refused_area(
+        area,
+        Fault {
+            why: Refusal::BlockMissing,
+            place: 0,
+        },
+    )
 }
 
-fn refused_area(area: &mut [u8], why: Refusal) -> Answer
+fn refused_area(area: &mut [u8], fault: Fault) -> BodyAnswer
     requires { ⌜ length (now area) ≡ 131072 ⌝ }
-    ensures { λ r. ⌜ ReadsBody (bodyRefused why) r (now (area .exit)) ⌝ }
+    ensures { λ r. ⌜ ReadsBody (bodyRefused fault) r (now (area .exit)) ⌝ }
 {
     slices::fill(area, 0);
-    Answer::Refused(why)
+    BodyAnswer::Faulty(fault)
 }
 
 // The block at a place of the file, read into its own part of the area.
@@ -52,7 +64,7 @@ fn read_block(file: &[u8], at: usize, model: Model, seen: [bool; 8], area: &mut 
     ensures { λ r. ⌜ StepSays model seen (now (file .entry)) at (now (area .entry)) (now (area .exit)) r ⌝ }
 {
     match block_read::head_at(file, at, model, seen) {
-        BlockHead::Bad(why) => BlockStep::Failed(why),
+        BlockHead::Bad(why) => BlockStep::Failed(Fault { why, place: at }),
         BlockHead::Data {
             page,
             start,
@@ -64,8 +76,17 @@ fn read_block(file: &[u8], at: usize, model: Model, seen: [bool; 8], area: &mut 
             let filled = block_read::fill_page(&file[start..end], plain, &mut area[base..top]);
             match filled {
                 Unpacked::Good => BlockStep::Next { page, at: end },
-                Unpacked::Malformed => BlockStep::Failed(Refusal::MalformedData),
-                Unpacked::WrongLength => BlockStep::Failed(Refusal::UnpackedLength),
+                Unpacked::Malformed(i) => {
+                    let place = start + i;
+                    BlockStep::Failed(Fault {
+                        why: Refusal::MalformedData,
+                        place,
+                    })
+                }
+                Unpacked::WrongLength => BlockStep::Failed(Fault {
+                    why: Refusal::UnpackedLength,
+                    place: at,
+                }),
             }
         }
     }

@@ -15,10 +15,11 @@ use Rattle.packed.specs.Unpacking.{Unpacks}
 use Rattle.packed.specs.declared.Unpacked.{Unpacked}
 use Rattle.packed.specs.declared.Unpacked.the-variants.{Good, WrongLength, Malformed}
 use Rattle.numbers.specs.declared.Refusal.the-variants.{MalformedData, UnpackedLength, EndMarker}
-use Rattle.numbers.specs.declared.Answer.{Answer}
-use Rattle.numbers.specs.declared.Answer.the-variants.{Accepted, Refused}
+use Rattle.numbers.specs.Faults.{faultAt}
 use Rattle.body_v1.specs.Body.{marked, spread, spreadFrom, bodyInto}
 use Rattle.blocks.specs.Blocks.{ReadsBody}
+use Rattle.blocks.specs.declared.BodyAnswer.{BodyAnswer}
+use Rattle.blocks.specs.declared.BodyAnswer.the-variants.{Whole, Faulty}
 use Rattle.block_read.proofs.Answers.{good-is, malformed-is, wrong-is}
 
 -- what stands from n on, as a part
@@ -57,33 +58,35 @@ pub spreads : (area body a b c : List ℕ) → a ≡ put area 81920 (take 16384 
 unfolding spread
 spreads area body a b c p q r = rw (r, q, p)
 
-module _ (u : Found) (n : ℕ) (r : Unpacked) (body before after : List ℕ) (h : Unpacks u n r body) (l : n ≡ 49152) where
-  pub body-good : r ≡ Good → after ≡ spread before body → ReadsBody (spreadFrom u before) Accepted after
+module _ (from : ℕ) (u : Found) (n : ℕ) (r : Unpacked) (body before after : List ℕ) (h : Unpacks u n r body) (l : n ≡ 49152) where
+  pub body-good : r ≡ Good → after ≡ spread before body → ReadsBody (spreadFrom from u before) Whole after
   body-good e q = let w = good-is u n 49152 r body h l e in rw (w .0, eq-eqb _ _ (w .1)) (refl, q)
 
-  pub body-malformed : r ≡ Malformed → after ≡ blank 131072 → ReadsBody (spreadFrom u before) (Refused MalformedData) after
-  body-malformed e q = rw (malformed-is u n 49152 r body h l e) (refl, q)
+  pub body-malformed : (i : ℕ) → r ≡ Malformed i → after ≡ blank 131072 → ReadsBody (spreadFrom from u before) (Faulty (faultAt (from + i) MalformedData)) after
+  body-malformed i e q = rw (malformed-is u n 49152 r body h l i e) (refl, q)
 
-  pub body-wrong : r ≡ WrongLength → after ≡ blank 131072 → ReadsBody (spreadFrom u before) (Refused UnpackedLength) after
+  pub body-wrong : r ≡ WrongLength → after ≡ blank 131072 → ReadsBody (spreadFrom from u before) (Faulty (faultAt from UnpackedLength)) after
   body-wrong e q = let w = wrong-is u n 49152 r body h l e in rw (w .1 .0, w .1 .1) (refl, q)
 
 module _ (packed : Bool) (file : List ℕ) (from : ℕ) (area after : List ℕ) where
-  pub read-marked : (m : Bool) (r : Answer) → packed ≡ true → m ≡ marked (bodyFrom file from) → m ≡ true
-      → ReadsBody (spreadFrom (unpacked (take (length (bodyFrom file from) - 4 - 0) (drop 0 (bodyFrom file from)))) area) r after → ReadsBody (bodyInto packed area (drop from file)) r after
+  pub read-marked : (m : Bool) (r : BodyAnswer) → packed ≡ true → m ≡ marked (bodyFrom file from) → m ≡ true
+      → ReadsBody (spreadFrom from (unpacked (take (length (bodyFrom file from) - 4 - 0) (drop 0 (bodyFrom file from)))) area) r after → ReadsBody (bodyInto packed area from (drop from file)) r after
   unfolding bodyInto
   read-marked m r e a t h =
       let z : length (bodyFrom file from) - 4 - 0 ≡ length (bodyFrom file from) - 4 = omega arith in
       rw (e, ← to-end file from, ← a, t) (rw z at h)
 
-  pub read-unmarked : (m : Bool) → packed ≡ true → m ≡ marked (bodyFrom file from) → m ≡ false → after ≡ blank 131072
-      → ReadsBody (bodyInto packed area (drop from file)) (Refused EndMarker) after
+  pub read-unmarked : (m : Bool) → packed ≡ true → m ≡ marked (bodyFrom file from) → m ≡ false → from ≤ length file → after ≡ blank 131072
+      → ReadsBody (bodyInto packed area from (drop from file)) (Faulty (faultAt (length file) EndMarker)) after
   unfolding bodyInto
-  read-unmarked m e a t q = rw (e, ← to-end file from, ← a, t) (refl, q)
+  read-unmarked m e a t l q =
+      let z : length file ≡ from + length (bodyFrom file from) = omega (arith, ap length (to-end file from), length-drop from file) in
+      rw (e, ← to-end file from, ← a, t) (ap (λ (n : ℕ). Faulty (faultAt n EndMarker)) z, q)
 
-  pub read-plain : packed ≡ false → length (bodyFrom file from) ≡ 49152 → after ≡ spread area (bodyFrom file from) → ReadsBody (bodyInto packed area (drop from file)) Accepted after
+  pub read-plain : packed ≡ false → length (bodyFrom file from) ≡ 49152 → after ≡ spread area (bodyFrom file from) → ReadsBody (bodyInto packed area from (drop from file)) Whole after
   unfolding bodyInto
   read-plain e l q = rw (e, ← to-end file from, eq-eqb _ _ l) (refl, q)
 
-  pub read-wrong : packed ≡ false → (length (bodyFrom file from) ≡ 49152 → ⊥) → after ≡ blank 131072 → ReadsBody (bodyInto packed area (drop from file)) (Refused UnpackedLength) after
+  pub read-wrong : packed ≡ false → (length (bodyFrom file from) ≡ 49152 → ⊥) → after ≡ blank 131072 → ReadsBody (bodyInto packed area from (drop from file)) (Faulty (faultAt from UnpackedLength)) after
   unfolding bodyInto
   read-wrong e l q = rw (e, ← to-end file from, ne-eqb _ _ l) (refl, q)

@@ -3,8 +3,9 @@ use Prim.Native.Nat.{ℕ, _+_, _-_, _≤_, _<_}
 use native.Mathlib.Numerals.{add-one}
 use native.Mathlib.Omega.{arith}
 use mathlib.Core.Path.{_≡_, refl, sym, ap, _∙_}
+use mathlib.Core.Bool.{Bool, true, false}
 use mathlib.Core.List.{List, _++_, append-assoc, append-nil}
-use lib.ListN.{length, getD, take, drop, set, replicate, length-append, length-drop, length-set, length-replicate, replicate-append-replicate, take-append-drop}
+use lib.ListN.{length, getD, take, drop, set, replicate, length-append, length-drop, length-set, length-replicate, length-take, replicate-append-replicate, take-append-drop}
 use lib.Seq.{
   paste,
   paste-zero,
@@ -21,20 +22,25 @@ use lib.Seq.{
   drop-drop,
   drop-length,
 }
-use borrow.Rule.Slice.PartMut.{putMid, midOf, post-is, mid-len, put-same}
+use lib.Dec.{eqb}
+use borrow.Author.Tests.{eqb-true}
+use borrow.Rule.Slice.PartMut.{putMid, midOf, same-len-mid, post-is, mid-len, put-same}
+use Rattle.slices.specs.Choose.{choose}
 use Rattle.slices.specs.Blank.{blank}
 use Rattle.slices.specs.Put.{put}
 use Rattle.slices.proofs.Puts.{length-put}
-use Rattle.packed.specs.Packed.{Found}
-use Rattle.packed.specs.Unpacking.{Unpacks}
+use Rattle.packed.specs.Packed.{Found, malformed, bytes, unpacked}
+use Rattle.packed.specs.Packed.Promise.{bad-inside}
+use Rattle.packed.specs.Unpacking.{leftBy, Unpacks}
 use Rattle.packed.specs.declared.Unpacked.{Unpacked}
 use Rattle.packed.specs.declared.Unpacked.the-variants.{Good, WrongLength, Malformed}
 use Rattle.numbers.specs.declared.Refusal.the-variants.{MalformedData, UnpackedLength}
-use Rattle.numbers.specs.declared.Answer.the-variants.{Accepted, Refused}
+use Rattle.numbers.specs.Faults.{faultAt}
 use Rattle.body_v1.specs.Body.{spread, spreadFrom}
 use Rattle.body_v1.specs.Inner.{pageMoved, topCleared, settled}
 use Rattle.blocks.specs.Blocks.{ReadsBody}
-use Rattle.block_read.proofs.Answers.{good-is, refused-zeros}
+use Rattle.blocks.specs.declared.BodyAnswer.the-variants.{Whole, Faulty}
+use Rattle.block_read.proofs.Answers.{good-is, malformed-is, refused-zeros}
 use Rattle.body_v1.proofs.Bodies.{body-good, body-malformed, body-wrong}
 
 -- k bytes of the page at `from` stand at `to` too
@@ -202,14 +208,38 @@ module _ (b xs : List ℕ) (lb : length b ≡ 131072) (eb : b ≡ blank 131072) 
       ∙ zeros-on-top
       ∙ sym spread-is
 
+left-long : (u : Found) (n : ℕ) → length (leftBy u n) ≡ n
+left-long (malformed i) n = length-replicate n 0
+left-long (bytes xs) n = go (eqb (length xs) n) refl
+  where
+    go : (t : Bool) → eqb (length xs) n ≡ t → length (choose t xs (replicate n 0)) ≡ n
+    go true e = eqb-true (length xs) n e
+    go false e = length-replicate n 0
+
+-- the area with its part unpacked is as long as before
+pub kept-long : (u : Found) (area : List ℕ) (r : Unpacked) (body : List ℕ) → Unpacks u (length (midOf 81920 (length area - 81920) area)) r body
+    → length (putMid 81920 (length area - 81920) area body) ≡ length area
+kept-long u area r body h = same-len-mid 81920 (length area - 81920) area body (ap length (h .memory) ∙ left-long u _)
+
+moved-long : (a : List ℕ) (from to : ℕ) → to + 16384 ≤ length a → length (pageMoved a from to) ≡ length a
+unfolding pageMoved
+moved-long a from to h = length-put a (take 16384 (drop from a)) to (simp (length-take, length-drop) (omega arith))
+
+pub settled-long : (a after : List ℕ) → length a ≡ 131072 → after ≡ settled a → length after ≡ length a
+unfolding settled topCleared
+settled-long a after l e =
+    let p = moved-long a 98304 32768 (omega arith) in
+    let q = moved-long (pageMoved a 98304 32768) 114688 0 (omega arith) in
+    ap length e ∙ simp (length-append, length-take, length-replicate) (omega arith)
+
 -- the answers of unpacking into pages 5, 6 and 7
-module _ (u : Found) (area : List ℕ) (r : Unpacked) (body : List ℕ) (h : Unpacks u (length (midOf 81920 (length area - 81920) area)) r body) (l : length area ≡ 131072)
+module _ (from : ℕ) (u : Found) (area : List ℕ) (r : Unpacked) (body : List ℕ) (h : Unpacks u (length (midOf 81920 (length area - 81920) area)) r body) (l : length area ≡ 131072)
     (b : area ≡ blank 131072) where
   body-room : length (midOf 81920 (length area - 81920) area) ≡ 49152
   body-room = mid-len 81920 (length area) area (omega arith) ∙ omega arith
 
-  pub body-accepted : (after : List ℕ) → r ≡ Good → after ≡ settled (putMid 81920 (length area - 81920) area body) → ReadsBody (spreadFrom u area) Accepted after
-  body-accepted after e q = body-good u _ r body area after h body-room e (settled-is area body l b (good-is u _ 49152 r body h body-room e .1) after q)
+  pub body-accepted : (after : List ℕ) → r ≡ Good → after ≡ settled (putMid 81920 (length area - 81920) area body) → ReadsBody (spreadFrom from u area) Whole after
+  body-accepted after e q = body-good from u _ r body area after h body-room e (settled-is area body l b (good-is u _ 49152 r body h body-room e .1) after q)
 
   -- zeros written over zeros
   still-zero : (r ≡ Good → ⊥) → putMid 81920 (length area - 81920) area body ≡ blank 131072
@@ -220,8 +250,12 @@ module _ (u : Found) (area : List ℕ) (r : Unpacked) (body : List ℕ) (h : Unp
       ∙ sym (take-all (length area - 81920) (drop 81920 area) (omega (arith, length-drop 81920 area))) in
       ap (putMid 81920 (length area - 81920) area) part ∙ put-same 81920 (length area - 81920) area ∙ b
 
-  pub malformed-body : r ≡ Malformed → ReadsBody (spreadFrom u area) (Refused MalformedData) (putMid 81920 (length area - 81920) area body)
-  malformed-body e = body-malformed u _ r body area _ h body-room e (still-zero (λ g. let z : _≡_ {A = ℕ} 0 1 = cc in omega arith))
+  pub malformed-body : (i : ℕ) → r ≡ Malformed i → ReadsBody (spreadFrom from u area) (Faulty (faultAt (from + i) MalformedData)) (putMid 81920 (length area - 81920) area body)
+  malformed-body i e = body-malformed from u _ r body area _ h body-room i e (still-zero (λ g. let z : _≡_ {A = ℕ} 0 1 = cc in omega arith))
 
-  pub wrong-body : r ≡ WrongLength → ReadsBody (spreadFrom u area) (Refused UnpackedLength) (putMid 81920 (length area - 81920) area body)
-  wrong-body e = body-wrong u _ r body area _ h body-room e (still-zero (λ g. let z : _≡_ {A = ℕ} 0 1 = cc in omega arith))
+  pub wrong-body : r ≡ WrongLength → ReadsBody (spreadFrom from u area) (Faulty (faultAt from UnpackedLength)) (putMid 81920 (length area - 81920) area body)
+  wrong-body e = body-wrong from u _ r body area _ h body-room e (still-zero (λ g. let z : _≡_ {A = ℕ} 0 1 = cc in omega arith))
+
+-- a bad code is among the data
+pub bad-code-before : (src : List ℕ) (n : ℕ) (r : Unpacked) (body : List ℕ) → Unpacks (unpacked src) n r body → (i : ℕ) → r ≡ Malformed i → i < length src
+bad-code-before src n r body h i e = bad-inside src i (malformed-is (unpacked src) n n r body h refl i e)

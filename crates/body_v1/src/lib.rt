@@ -1,5 +1,6 @@
 // The one stream of a v1 file read into the pages of a lent area. Above packing, through its promise alone.
-use numbers::Answer;
+use blocks::BodyAnswer;
+use numbers::Fault;
 use numbers::Refusal;
 use packed::Unpacked;
 ghost use Prim.Native.Nat.{_+_, _≤_};
@@ -72,39 +73,56 @@ fn clear_top(area: &mut [u8])
     slices::clear_from(area, 98304);
 }
 
-// A packed v1 stream without its marker, into an area of zeros: unpacked into pages 5, 6 and 7, which lie in a row, so that no
-// other memory is needed. Refused, the area is all zero: so unpacking leaves its part.
-fn unpack_body(src: &[u8], area: &mut [u8]) -> Answer
-    requires { ⌜ (length (now area) ≡ 131072) × (now area ≡ blank 131072) ⌝ }
-    ensures { λ r. ⌜ ReadsBody (spreadFrom (unpacked (now (src .entry))) (now (area .entry))) r (now (area .exit)) ⌝ }
+// A packed v1 stream without its marker, which stands at a place of the file, into an area of zeros: unpacked into pages 5, 6 and
+// 7, which lie in a row, so that no other memory is needed. Refused, the area is all zero: so unpacking leaves its part.
+fn unpack_body(src: &[u8], place: usize, area: &mut [u8]) -> BodyAnswer
+    requires { ⌜ (place + length (now src) ≤ 18446744073709551615) × ((length (now area) ≡ 131072) × (now area ≡ blank 131072)) ⌝ }
+    ensures { λ r. ⌜ ReadsBody (spreadFrom place (unpacked (now (src .entry))) (now (area .entry))) r (now (area .exit)) ⌝ }
 {
     let answer = unpacking::unpack(src, &mut area[81920..]);
     match answer {
         Unpacked::Good => {
             settle(area);
-            return Answer::Accepted;
+            return BodyAnswer::Whole;
         }
-        Unpacked::Malformed => return Answer::Refused(Refusal::MalformedData),
-        Unpacked::WrongLength => return Answer::Refused(Refusal::UnpackedLength),
+        Unpacked::Malformed(i) => {
+            let bad = place + i;
+            return BodyAnswer::Faulty(Fault {
+                why: Refusal::MalformedData,
+                place: bad,
+            });
+        }
+        Unpacked::WrongLength => {
+            return BodyAnswer::Faulty(Fault {
+                why: Refusal::UnpackedLength,
+                place,
+            })
+        }
     }
 }
 
 // A v1 body from a place to the end of the file, into an area of zeros. Refused, the area is all zero still.
-pub fn read_body(file: &[u8], from: usize, packed: bool, area: &mut [u8]) -> Answer
+pub fn read_body(file: &[u8], from: usize, packed: bool, area: &mut [u8]) -> BodyAnswer
     requires { ⌜ (from ≤ length (now file)) × ((length (now area) ≡ 131072) × (now area ≡ blank 131072)) ⌝ }
-    ensures { λ r. ⌜ ReadsBody (bodyInto packed (now (area .entry)) (drop from (now (file .entry)))) r (now (area .exit)) ⌝ }
+    ensures { λ r. ⌜ ReadsBody (bodyInto packed (now (area .entry)) from (drop from (now (file .entry)))) r (now (area .exit)) ⌝ }
 {
     let body = &file[from..];
     if packed {
         if has_marker(body) {
             let n = body.len() - 4;
-            return unpack_body(&body[0..n], area);
+            return unpack_body(&body[0..n], from, area);
         }
-        return Answer::Refused(Refusal::EndMarker);
+        return BodyAnswer::Faulty(Fault {
+            why: Refusal::EndMarker,
+            place: file.len(),
+        });
     }
     if body.len() == 49152 {
         spread_out(body, area);
-        return Answer::Accepted;
+        return BodyAnswer::Whole;
     }
-    Answer::Refused(Refusal::UnpackedLength)
+    BodyAnswer::Faulty(Fault {
+        why: Refusal::UnpackedLength,
+        place: from,
+    })
 }

@@ -42,6 +42,12 @@ pub enum Answer {
     Refused(Refusal),
 }
 
+// Why a file is refused, and the place in it that is named: an offset in the whole file, 0 where none is.
+pub struct Fault {
+    pub why: Refusal,
+    pub place: usize,
+}
+
 // The numbers of two calls.
 pub struct TwoNumbers {
     pub one: u32,

@@ -5,5 +5,5 @@ use Rattle.packed.specs.declared.Unpacked.the-variants.{WrongLength, Mal
 
 -- the answer where the part is full and data are left
 abbrev pub over : Found → Unpacked
-over malformed = Malformed
+over (malformed i) = Malformed i
 over (bytes xs) = WrongLength

@@ -3,7 +3,7 @@
 pub mod CodeLaws
 pub mod Promise
 pub mod Examples
-use Prim.Native.Nat.{ℕ, zero, suc, _-_, min}
+use Prim.Native.Nat.{ℕ, zero, suc, _+_, _-_, min}
 use mathlib.Core.Bool.{Bool}
 use mathlib.Core.List.{List, [], _∷_, _++_}
 use lib.ListN.{take, replicate}
@@ -17,28 +17,29 @@ ED = 0xED
 abbrev pub escape : ℕ → ℕ → Bool
 escape a b = both (eqb a ED) (eqb b ED)
 
--- what packed data stand for
+-- what packed data stand for, or the offset where the first bad code starts
 pub data Found : Type 0 where
-  malformed : Found
+  malformed : ℕ → Found
   bytes : List ℕ → Found
 
--- xs, and then what the rest stands for
-abbrev pub before : List ℕ → Found → Found
-before xs malformed = malformed
-before xs (bytes ys) = bytes (xs ++ ys)
+-- k bytes of packed data that stand for xs, and then what the rest stands for
+abbrev pub before : ℕ → List ℕ → Found → Found
+before k xs (malformed i) = malformed (k + i)
+before k xs (bytes ys) = bytes (xs ++ ys)
 
--- n times y, and then what the rest stands for; a count of 0 is malformed
+-- a code for n times y, and then what the rest stands for; a count of 0 is malformed
 abbrev pub run : ℕ → ℕ → Found → Found
-run n y rest = choose (eqb n 0) malformed (before (replicate n y) rest)
+run n y rest = choose (eqb n 0) (malformed 0) (before 4 (replicate n y) rest)
 
 -- "Unpacking goes from the left. ED ED xx yy stands for xx times yy. Any other byte, a single ED included, stands for itself.
--- ED ED with fewer than two bytes after it, or with xx 0, is malformed."
+-- ED ED with fewer than two bytes after it, or with xx 0, is malformed." "With a malformed answer unpacking gives the offset where the first
+-- bad code starts."
 pub unpacked : List ℕ → Found
 unpacked [] = bytes []
 unpacked (a ∷ []) = bytes (a ∷ [])
-unpacked (a ∷ b ∷ []) = choose (escape a b) malformed (before (a ∷ []) (unpacked (b ∷ [])))
-unpacked (a ∷ b ∷ n ∷ []) = choose (escape a b) malformed (before (a ∷ []) (unpacked (b ∷ n ∷ [])))
-unpacked (a ∷ b ∷ n ∷ y ∷ rest) = choose (escape a b) (run n y (unpacked rest)) (before (a ∷ []) (unpacked (b ∷ n ∷ y ∷ rest)))
+unpacked (a ∷ b ∷ []) = choose (escape a b) (malformed 0) (before 1 (a ∷ []) (unpacked (b ∷ [])))
+unpacked (a ∷ b ∷ n ∷ []) = choose (escape a b) (malformed 0) (before 1 (a ∷ []) (unpacked (b ∷ n ∷ [])))
+unpacked (a ∷ b ∷ n ∷ y ∷ rest) = choose (escape a b) (run n y (unpacked rest)) (before 1 (a ∷ []) (unpacked (b ∷ n ∷ y ∷ rest)))
 
 -- how many bytes at the front of a list are x
 abbrev pub front : ℕ → List ℕ → ℕ

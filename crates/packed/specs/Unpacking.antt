@@ -9,14 +9,14 @@ use Rattle.packed.specs.Packed.{Found, malformed, bytes}
 use Rattle.packed.specs.declared.Unpacked.{Unpacked}
 use Rattle.packed.specs.declared.Unpacked.the-variants.{Good, WrongLength, Malformed}
 
--- malformed before the length is looked at, then the length
+-- malformed, and where, before the length is looked at; then the length
 abbrev pub answerOf : Found → ℕ → Unpacked
-answerOf malformed n = Malformed
+answerOf (malformed i) n = Malformed i
 answerOf (bytes xs) n = choose (eqb (length xs) n) Good WrongLength
 
 -- the bytes where the answer is Good, and zeros otherwise
 abbrev pub leftBy : Found → ℕ → List ℕ
-leftBy malformed n = replicate n 0
+leftBy (malformed i) n = replicate n 0
 leftBy (bytes xs) n = choose (eqb (length xs) n) xs (replicate n 0)
 
 -- the answer r and the part d of n bytes, where u is what the data stand for

@@ -7,8 +7,13 @@ use Rattle.packed.specs.declared.Fit.the-variants.{Length, TooShort}
 
 abbrev pub unpackCode : Unpacked → ℕ
 unpackCode Good = 0
-unpackCode Malformed = 1
+unpackCode (Malformed i) = 1
 unpackCode WrongLength = 2
+
+abbrev pub placeIn : Unpacked → ℕ
+placeIn Good = 0
+placeIn (Malformed i) = i
+placeIn WrongLength = 0
 
 abbrev pub packCode : Fit → ℕ
 packCode (Length n) = 0

@@ -6,14 +6,16 @@ ghost use lib.ListN.{length};
 ghost use Rattle.packed.specs.Packed.{unpacked, packed};
 ghost use Rattle.packed.specs.Unpacking.{answerOf, leftBy};
 ghost use Rattle.packed.specs.Packing.{fits, fitted};
-ghost use Rattle.packing_exports.specs.Codes.{unpackCode, packCode, lengthIn};
+ghost use Rattle.packing_exports.specs.Codes.{unpackCode, placeIn, packCode, lengthIn};
 
-// 0 good, 1 malformed, 2 wrong length.
+// 0 good, 1 malformed, 2 wrong length; the place of the first bad code, or 0.
 #[no_mangle]
-pub extern "C" fn packing_unpack(src: &[u8], dst: &mut [u8]) -> u32
-    ensures { λ r. ⌜ (r ≡ unpackCode (answerOf (unpacked (now (src .entry))) (length (now (dst .entry))))) × (now (dst .exit) ≡ leftBy (unpacked (now (src .entry))) (length (now (dst .entry)))) ⌝ }
+pub extern "C" fn packing_unpack(src: &[u8], dst: &mut [u8], place: &mut u64) -> u32
+    ensures { λ r. ⌜ (r ≡ unpackCode (answerOf (unpacked (now (src .entry))) (length (now (dst .entry))))) × ((now (place .exit) ≡ placeIn (answerOf (unpacked (now (src .entry))) (length (now (dst .entry))))) × (now (dst .exit) ≡ leftBy (unpacked (now (src .entry))) (length (now (dst .entry))))) ⌝ }
 {
-    unpack_code(unpacking::unpack(src, dst))
+    let r = unpacking::unpack(src, dst);
+    *place = place_in(r);
+    unpack_code(r)
 }
 
 // 0 and the packed length, or 1 and length 0 where dst is too short.
@@ -39,8 +41,18 @@ fn unpack_code(r: Unpacked) -> u32
 {
     match r {
         Unpacked::Good => 0,
-        Unpacked::Malformed => 1,
+        Unpacked::Malformed(_) => 1,
         Unpacked::WrongLength => 2,
+    }
+}
+
+fn place_in(r: Unpacked) -> u64
+    ensures { λ n. ⌜ n ≡ placeIn r ⌝ }
+{
+    match r {
+        Unpacked::Good => 0,
+        Unpacked::Malformed(i) => i as u64,
+        Unpacked::WrongLength => 0,
     }
 }
 

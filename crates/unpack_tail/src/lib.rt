@@ -3,6 +3,7 @@ use codes::escape_at;
 use packed::Unpacked;
 ghost use Prim.Native.Nat.{_≤_};
 ghost use mathlib.Core.Path.{_≡_};
+ghost use mathlib.Core.List.{[]};
 ghost use lib.ListN.{length, take, drop, replicate};
 ghost use Rattle.packed.specs.Packed.{before, unpacked};
 ghost use Rattle.packed.specs.Unpacking.{Unpacks};
@@ -12,18 +13,18 @@ ghost use Rattle.packed.specs.Inner.{over};
 // is Good.
 pub fn unpack_rest(src: &[u8], from: usize, dst: &mut [u8], at: usize) -> Unpacked
     requires { ⌜ (from ≤ length (now src)) × (at ≤ length (now dst)) ⌝ }
-    ensures { λ r. ⌜ Unpacks (before (take at (now (dst .entry))) (unpacked (drop from (now (src .entry))))) (length (now (dst .entry))) r (now (dst .exit)) ⌝ }
+    ensures { λ r. ⌜ Unpacks (before from (take at (now (dst .entry))) (unpacked (drop from (now (src .entry))))) (length (now (dst .entry))) r (now (dst .exit)) ⌝ }
 {
     let mut i = from;
     let mut o = at;
     while i < src.len() {
         if escape_at(src, i) {
             if src.len() < i + 4 {
-                return refused_part(dst, Unpacked::Malformed);
+                return refused_part(dst, Unpacked::Malformed(i));
             }
             let count = slices::wide(src[i + 2]);
             if count == 0 {
-                return refused_part(dst, Unpacked::Malformed);
+                return refused_part(dst, Unpacked::Malformed(i));
             }
             let e = o + count;
             if dst.len() < e {
@@ -57,19 +58,19 @@ pub fn refused_part(dst: &mut [u8], why: Unpacked) -> Unpacked
     why
 }
 
-// The answer where dst is full and the bytes from `from` on are left: a bad code among them still decides.
+// The answer where dst is full and the bytes from `from` on are left: the first bad code among them still decides.
 pub fn rest(src: &[u8], from: usize) -> Unpacked
     requires { ⌜ from ≤ length (now src) ⌝ }
-    ensures { λ r. ⌜ r ≡ over (unpacked (drop from (now (src .entry)))) ⌝ }
+    ensures { λ r. ⌜ r ≡ over (before from [] (unpacked (drop from (now (src .entry))))) ⌝ }
 {
     let mut i = from;
     while i < src.len() {
         if escape_at(src, i) {
             if src.len() < i + 4 {
-                return Unpacked::Malformed;
+                return Unpacked::Malformed(i);
             }
             if src[i + 2] == 0 {
-                return Unpacked::Malformed;
+                return Unpacked::Malformed(i);
             }
             i += 4;
         } else {

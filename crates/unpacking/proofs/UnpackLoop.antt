@@ -14,13 +14,12 @@ use Rattle.packed.specs.Packed.{before, unpacked}
 use Rattle.slices.specs.Choose.{choose}
 use Rattle.slices.specs.Put.{put}
 use Rattle.packed.specs.Unpacking.{answerOf, leftBy, Unpacks}
-use Rattle.packed.specs.Inner.{over}
 use Rattle.codes.specs.Inner.{escapeAt, reachOf, Looked}
 use Rattle.codes.proofs.CodesAhead.{NextCode, next-code}
 use Rattle.packed.specs.declared.Unpacked.{Unpacked}
 use Rattle.packed.specs.declared.Unpacked.the-variants.{Malformed}
 use Rattle.packed.proofs.Frame.{Verbatim, Frame, frame-none, copied}
-use Rattle.unpack_tail.proofs.UnpackSteps.{zero-into, full-run, going-stored}
+use Rattle.unpack_tail.proofs.UnpackSteps.{overAt, zero-into, full-run, going-stored}
 
 -- the frame, and what was seen ahead
 pub record Unpacking (s d₀ d : List ℕ) (i o m : ℕ) : Type 0 where
@@ -74,10 +73,10 @@ module _ (s d₀ d : List ℕ) (i o m₀ : ℕ) (g : Unpacking s d₀ d i o m₀
     code-fits : i + k + 4 ≤ length s
     code-fits = omega (arith, first-few m k e)
 
-    pub unpacking-zero : (a : Unpacked) (d″ : List ℕ) → n ≡ 0 → (a ≡ Malformed) × (d″ ≡ replicate (length d′) 0) → Unpacks (unpacked s) (length d₀) a d″
+    pub unpacking-zero : (a : Unpacked) (d″ : List ℕ) → n ≡ 0 → (a ≡ Malformed (i + k)) × (d″ ≡ replicate (length d′) 0) → Unpacks (unpacked s) (length d₀) a d″
     unpacking-zero a d″ z c = zero-into (unpacked s) s d₀ d′ (i + k) (o + k) reached true (code-there h) n code-fits refl en a d″ z c
 
-    pub unpacking-full : (why a : Unpacked) (d″ : List ℕ) → why ≡ over (unpacked (drop (i + k) s)) → (n ≡ 0 → ⊥) → length d′ < o + k + n
+    pub unpacking-full : (why a : Unpacked) (d″ : List ℕ) → why ≡ overAt s (i + k) → (n ≡ 0 → ⊥) → length d′ < o + k + n
         → (a ≡ why) × (d″ ≡ replicate (length d′) 0) → Unpacks (unpacked s) (length d₀) a d″
     unpacking-full why a d″ r z j c = full-run (unpacked s) s d₀ d′ (i + k) (o + k) reached true (code-there h) n code-fits refl en why a d″ z j r c
 
@@ -96,7 +95,7 @@ module _ (s d₀ d : List ℕ) (i o m₀ : ℕ) (g : Unpacking s d₀ d i o m₀
       unpacking-short p few room = stored-run 32 p few (omega (arith, looked-long, first-few m k e))
 
 -- the rest is another's
-pub rest-into : (s d₀ d : List ℕ) (i o m : ℕ) → Unpacking s d₀ d i o m → (a : Unpacked) (d′ : List ℕ) → Unpacks (before (take o d) (unpacked (drop i s))) (length d) a d′
+pub rest-into : (s d₀ d : List ℕ) (i o m : ℕ) → Unpacking s d₀ d i o m → (a : Unpacked) (d′ : List ℕ) → Unpacks (before i (take o d) (unpacked (drop i s))) (length d) a d′
     → Unpacks (unpacked s) (length d₀) a d′
 rest-into s d₀ d i o m g a d′ h =
     let f = g .frame in

@@ -31,7 +31,7 @@ pub fn unpack(src: &[u8], dst: &mut [u8]) -> Unpacked
             let n = slices::wide(src[p + 2]);
             let y = src[p + 3];
             if n == 0 {
-                return refused_part(dst, Unpacked::Malformed);
+                return refused_part(dst, Unpacked::Malformed(p));
             }
             if n <= 32 {
                 stores::fill_32(dst, q, y);

@@ -1,6 +1,8 @@
 use native.Mathlib.Omega.{arith}
-use Prim.Native.Nat.{_<_}
-use Rattle.blocks.proofs.BlockSteps.{head-refuses, page-below, data-ordered, data-within, brings, malformed-block, wrong-block}
+use Prim.Native.Nat.{_+_, _<_}
+use denote.Ref.{now}
+use lib.ListN.{length}
+use Rattle.blocks.proofs.BlockSteps.{head-refuses, page-below, data-ordered, data-within, brings, bad-code-within, malformed-block, wrong-block}
 use borrow.Author.Needs.{needs}
 use Rattle.blocks.proofs.read_block.Statement.{statement}
 use Rattle.blocks.proofs.read_block.Tie as tie
@@ -44,11 +46,16 @@ fill-page-requires c κs = search needs
 enum-told : tie.Need-enum-told
 enum-told c = search needs
 
+enum-known-filled : tie.Need-enum-known-filled
+enum-known-filled c = search needs
+
+add-place : tie.Need-add-place
+add-place c =
+    let b = c .before .before .before .before .before .before .before .before .before in
+    let h : b .page .given .0 .1 .0 + c .before .filled .given .0 .0 < length (now (b .before .before .before .before .before .args .file)) = search bad-code-within in search needs
+
 enum-told-2 : tie.Need-enum-told-2
 enum-told-2 c = search needs
-
-enum-told-3 : tie.Need-enum-told-3
-enum-told-3 c = search needs
 
 returns : tie.Need-returns
 returns c = search head-refuses
@@ -88,8 +95,9 @@ read-block-spec =
     part-fill-page-end-2
     fill-page-requires
     enum-told
+    enum-known-filled
+    add-place
     enum-told-2
-    enum-told-3
     returns
     same-length
     returns-2

@@ -8,7 +8,7 @@ use Rattle.blocks.proofs.read_blocks.Statement.{statement}
 use Rattle.blocks.proofs.read_blocks.Tie as tie
 
 abbrev Inv-loop : tie.InvT-loop
-Inv-loop file from model area₀ seen₀ at₀ area seen at = BlocksSoFar model file (blocksInto model area₀ (drop from file)) area seen at × (length area ≡ length area₀)
+Inv-loop file from model area₀ seen₀ at₀ area seen at = BlocksSoFar model file (blocksInto model area₀ from (drop from file)) area seen at × (length area ≡ length area₀)
 
 abbrev μ-loop : tie.MeasureT-loop
 μ-loop file from model area₀ seen₀ at₀ area seen at = length file - at
@@ -19,8 +19,8 @@ loop-holds c = (blocks-begin _ _ _ _, refl)
 read-block-requires : tie.Need-read-block-requires Inv-loop μ-loop
 read-block-requires c κs = search needs
 
-enum-known-why : tie.Need-enum-known-why Inv-loop μ-loop
-enum-known-why c = search needs
+enum-known-fault : tie.Need-enum-known-fault Inv-loop μ-loop
+enum-known-fault c = search needs
 
 refused-area-requires : tie.Need-refused-area-requires Inv-loop μ-loop
 refused-area-requires c κs = search needs
@@ -69,7 +69,7 @@ read-blocks-spec =
     μ-loop
     loop-holds
     read-block-requires
-    enum-known-why
+    enum-known-fault
     refused-area-requires
     same-length
     returns

@@ -1,4 +1,8 @@
-use Rattle.body_v1.proofs.BodyMoves.{body-accepted, malformed-body, wrong-body}
+use Prim.Native.Nat.{_<_}
+use mathlib.Core.Path.{_∙_}
+use denote.Ref.{now}
+use lib.ListN.{length}
+use Rattle.body_v1.proofs.BodyMoves.{kept-long, settled-long, body-accepted, malformed-body, wrong-body, bad-code-before}
 use borrow.Author.Needs.{needs}
 use Rattle.body_v1.proofs.unpack_body.Statement.{statement}
 use Rattle.body_v1.proofs.unpack_body.Tie as tie
@@ -19,28 +23,42 @@ enum-told : tie.Need-enum-told
 enum-told c = search needs
 
 settle-requires : tie.Need-settle-requires
-settle-requires c κs = search needs
+settle-requires c κs =
+    let b = c .before .before .before .before .before in
+    kept-long _ (now (b .before .before .before .before .args .area)) _ _ (b .unpack .ensures) ∙ b .before .before .before .before .pre .1 .0
 
 same-length : tie.Need-same-length
-same-length c = search needs
+same-length c =
+    let b = c .before .before .before .before .before .before .before .before in
+    let h = kept-long _ (now (b .before .before .before .before .args .area)) _ _ (b .unpack .ensures) in
+    settled-long _ _ (h ∙ b .before .before .before .before .pre .1 .0) (c .before .before .settle .ensures) ∙ h
 
 returns : tie.Need-returns
 returns c = search body-accepted
 
-enum-told-2 : tie.Need-enum-told-2
-enum-told-2 c = search needs
+enum-known-answer : tie.Need-enum-known-answer
+enum-known-answer c = search needs
+
+add-bad : tie.Need-add-bad
+add-bad c =
+    let b = c .before .before .before .before .before in
+    let h : c .before .answer .given .0 .0 < length (now (b .before .before .before .before .args .src)) = search bad-code-before in search needs
 
 same-length-2 : tie.Need-same-length-2
-same-length-2 c = search needs
+same-length-2 c =
+    let b = c .before .before .before .before .before in
+    kept-long _ (now (b .before .before .before .before .args .area)) _ _ (b .unpack .ensures)
 
 returns-2 : tie.Need-returns-2
 returns-2 c = search malformed-body
 
-enum-told-3 : tie.Need-enum-told-3
-enum-told-3 c = search needs
+enum-told-2 : tie.Need-enum-told-2
+enum-told-2 c = search needs
 
 same-length-3 : tie.Need-same-length-3
-same-length-3 c = search needs
+same-length-3 c =
+    let b = c .before .before .before .before in
+    kept-long _ (now (b .before .before .before .before .args .area)) _ _ (b .unpack .ensures)
 
 returns-3 : tie.Need-returns-3
 returns-3 c = search wrong-body
@@ -57,9 +75,10 @@ unpack-body-spec =
     settle-requires
     same-length
     returns
-    enum-told-2
+    enum-known-answer
+    add-bad
     same-length-2
     returns-2
-    enum-told-3
+    enum-told-2
     same-length-3
     returns-3)

@@ -29,8 +29,9 @@ table =
     ∷ packs (replicate 256 0xED ++ replicate 7 0) (0xED ∷ 0xED ∷ 0xFF ∷ 0xED ∷ 0xED ∷ 0 ∷ 0xED ∷ 0xED ∷ 6 ∷ 0 ∷ [])  -- P8
     ∷ packs [] []  -- P9
     ∷ unpacks (0xED ∷ 0xED ∷ 1 ∷ 0x41 ∷ []) (bytes (0x41 ∷ []))  -- P10
-    ∷ unpacks (0xED ∷ 0xED ∷ 0 ∷ 0x41 ∷ []) malformed  -- P11
-    ∷ unpacks (0xED ∷ 0xED ∷ 3 ∷ []) malformed  -- P11
+    ∷ unpacks (0xED ∷ 0xED ∷ 0 ∷ 0x41 ∷ []) (malformed 0)  -- P11
+    ∷ unpacks (0xED ∷ 0xED ∷ 3 ∷ []) (malformed 0)  -- P11
+    ∷ unpacks (0xED ∷ 0 ∷ 0xED ∷ 0xED ∷ 1 ∷ 0x41 ∷ 0xED ∷ 0xED ∷ 0 ∷ 0xED ∷ 0xED ∷ []) (malformed 6)  -- the first bad code, after two bytes and a code
     ∷ []
 
 pub examples : map computed table ≡ map expected table

@@ -39,7 +39,7 @@ run-back : (x : ℕ) (xs : List ℕ) (k : ℕ) → k ≤ front x xs → Back xs 
 unfolding Back
 run-back x xs k h ih =
     code (suc k) x (packedFrom k xs) (λ e. omega arith)
-    ∙ ap (before (replicate (suc k) x)) ih
+    ∙ ap (before 4 (replicate (suc k) x)) ih
     ∙ ap (λ (l : List ℕ). bytes (x ∷ l)) (covered x xs k h)
 
 single-back : (xs : List ℕ) → front 237 xs < 1 → Back xs 1 → unpacked (237 ∷ (take 1 xs ++ packedFrom 1 xs)) ≡ bytes (237 ∷ xs)
@@ -51,14 +51,14 @@ single-back (y ∷ ys) h ih = go (eqb y 237) refl h
     go true e h = let z : ⊥ = omega arith in absurd z
     go false e h =
         alone 237 y (packedFrom 0 ys) e
-        ∙ ap (before (237 ∷ [])) (plain y (packedFrom 0 ys) (eqb-false y 237 e) ∙ ap (before (y ∷ [])) ih)
+        ∙ ap (before 1 (237 ∷ [])) (plain y (packedFrom 0 ys) (eqb-false y 237 e) ∙ ap (before 1 (y ∷ [])) ih)
 
 step-back : (x : ℕ) (xs : List ℕ) → ((k : ℕ) → Back xs k) → Back (x ∷ xs) 0
 unfolding Back packedFrom
 step-back x xs ih =
     either Gives (eqb x 237) _ _
     (λ e. either Gives (leb 2 n) _ _ (λ f. subst coded (eqb-true x 237 e) is-long) (λ f. is-single (eqb-true x 237 e) (omega (arith, leb-false 2 n f))))
-    (λ e. either Gives (leb 5 n) _ _ (λ f. is-long) (λ f. plain x (packedFrom 0 xs) (eqb-false x 237 e) ∙ ap (before (x ∷ [])) (ih 0)))
+    (λ e. either Gives (leb 5 n) _ _ (λ f. is-long) (λ f. plain x (packedFrom 0 xs) (eqb-false x 237 e) ∙ ap (before 1 (x ∷ [])) (ih 0)))
   where
     n : ℕ
     n = suc (front x xs)
@@ -148,29 +148,34 @@ packed-short xs = omega (arith, all-short xs 0 .0)
 pub page-short : (xs : List ℕ) → length xs ≡ 16384 → length (packed xs) ≤ 27306
 page-short xs h = omega (arith, packed-short xs)
 
--- n bytes of packed data are few enough for what they stand for
+-- n bytes of packed data are few enough for what they stand for, and a bad code is among them
 abbrev Enough : ℕ → Found → Type 0
-Enough n malformed = Unit {0}
+Enough n (malformed i) = i < n
 Enough n (bytes xs) = n ≤ 4 * length xs
 
-enough-before : (xs : List ℕ) (m n : ℕ) (u : Found) → m ≤ n + 4 * length xs → Enough n u → Enough m (before xs u)
-enough-before xs m n malformed h e = tt
-enough-before xs m n (bytes ys) h e = omega (arith, length-append xs ys)
+enough-before : (k : ℕ) (xs : List ℕ) (m n : ℕ) (u : Found) → m ≡ k + n → k ≤ 4 * length xs → Enough n u → Enough m (before k xs u)
+enough-before k xs m n (malformed i) h l e = omega arith
+enough-before k xs m n (bytes ys) h l e = omega (arith, length-append xs ys)
 
 all-enough : (s : List ℕ) → Enough (length s) (unpacked s)
 unfolding unpacked
 all-enough [] = omega arith
 all-enough (a ∷ []) = omega arith
-all-enough (a ∷ b ∷ []) = either (Enough 2) (escape a b) _ _ (λ t. tt) (λ f. enough-before (a ∷ []) 2 1 (unpacked (b ∷ [])) (omega arith) (all-enough (b ∷ [])))
-all-enough (a ∷ b ∷ n ∷ []) = either (Enough 3) (escape a b) _ _ (λ t. tt) (λ f. enough-before (a ∷ []) 3 2 (unpacked (b ∷ n ∷ [])) (omega arith) (all-enough (b ∷ n ∷ [])))
+all-enough (a ∷ b ∷ []) =
+    either (Enough 2) (escape a b) _ _ (λ t. omega arith) (λ f. enough-before 1 (a ∷ []) 2 1 (unpacked (b ∷ [])) refl (omega arith) (all-enough (b ∷ [])))
+all-enough (a ∷ b ∷ n ∷ []) =
+    either (Enough 3) (escape a b) _ _ (λ t. omega arith) (λ f. enough-before 1 (a ∷ []) 3 2 (unpacked (b ∷ n ∷ [])) refl (omega arith) (all-enough (b ∷ n ∷ [])))
 all-enough (a ∷ b ∷ n ∷ y ∷ s) =
     let l = b ∷ n ∷ y ∷ s in
     let k = suc (length l) in
     either (Enough k) (escape a b) _ _
-    (λ t. either (Enough k) (eqb n 0) _ _ (λ z. tt)
-    (λ z. enough-before (replicate n y) k (length s) (unpacked s) (omega (arith, length-replicate n y, eqb-false n 0 z)) (all-enough s)))
-    (λ f. enough-before (a ∷ []) k (length l) (unpacked l) (omega arith) (all-enough (b ∷ n ∷ y ∷ s)))
+    (λ t. either (Enough k) (eqb n 0) _ _ (λ z. omega arith)
+    (λ z. enough-before 4 (replicate n y) k (length s) (unpacked s) (omega arith) (omega (arith, length-replicate n y, eqb-false n 0 z)) (all-enough s)))
+    (λ f. enough-before 1 (a ∷ []) k (length l) (unpacked l) (omega arith) (omega arith) (all-enough (b ∷ n ∷ y ∷ s)))
 
 -- a code of four bytes stands for one byte or more
 pub unpacked-long : (s xs : List ℕ) → unpacked s ≡ bytes xs → length s ≤ 4 * length xs
 unpacked-long s xs e = subst (Enough (length s)) e (all-enough s)
+
+pub bad-inside : (s : List ℕ) (i : ℕ) → unpacked s ≡ malformed i → i < length s
+bad-inside s i e = subst (Enough (length s)) e (all-enough s)

@@ -5,6 +5,9 @@ use Rattle.packing_exports.proofs.packing_unpack.Tie as tie
 unpack-requires : tie.Need-unpack-requires
 unpack-requires c κs = search needs
 
+place-in-requires : tie.Need-place-in-requires
+place-in-requires c κs = search needs
+
 unpack-code-requires : tie.Need-unpack-code-requires
 unpack-code-requires c κs = search needs
 
@@ -12,7 +15,8 @@ same-length : tie.Need-same-length
 same-length c = search needs
 
 returns : tie.Need-returns
-returns c = (cc, search needs)
+returns c = (cc, (cc, search needs))
 
 pub packing-unpack-spec : {M : Type 1} → statement M
-packing-unpack-spec = tie.close (tie.spec unpack-requires unpack-code-requires same-length returns)
+packing-unpack-spec =
+    tie.close (tie.spec unpack-requires place-in-requires unpack-code-requires same-length returns)

@@ -8,7 +8,7 @@ use Rattle.unpack_tail.proofs.unpack_rest.Statement.{statement}
 use Rattle.unpack_tail.proofs.unpack_rest.Tie as tie
 
 abbrev Inv-loop : tie.InvT-loop
-Inv-loop src from dst₀ at i₀ o₀ dst i o = Frame unpacked (before (take at dst₀) (unpacked (drop from src))) src dst₀ dst i o
+Inv-loop src from dst₀ at i₀ o₀ dst i o = Frame unpacked (before from (take at dst₀) (unpacked (drop from src))) src dst₀ dst i o
 
 abbrev μ-loop : tie.MeasureT-loop
 μ-loop src from dst₀ at i₀ o₀ dst i o = length src - i
