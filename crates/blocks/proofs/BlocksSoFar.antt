@@ -102,8 +102,9 @@ module _ (model : Model) (file : List ℕ) (all : BodyResult) (area : List ℕ) 
   pub going-all : (b : Bool) → length file ≤ at → b ≡ allThere model seen → b ≡ true → ReadsBody all Whole area
   going-all b h e t = subst (λ (x : BodyResult). ReadsBody x Whole area) (rw t at (at-end h b e)) (refl, refl)
 
-  pub going-missing : (b : Bool) (clear : List ℕ) (r : BodyAnswer) → length file ≤ at → b ≡ allThere model seen → b ≡ false → ReadsBody (bodyRefused (unplaced BlockMissing)) r clear → ReadsBody all r clear
-  going-missing b clear r h e t q = subst (λ (x : BodyResult). ReadsBody x r clear) (rw t at (at-end h b e)) q
+  pub going-missing : (b : Bool) (clear : List ℕ) (fault : Fault) (r : BodyAnswer) → length file ≤ at → b ≡ allThere model seen → b ≡ false → fault ≡ unplaced BlockMissing
+      → ReadsBody (bodyRefused fault) r clear → ReadsBody all r clear
+  going-missing b clear fault r h e t f q = subst (λ (x : BodyResult). ReadsBody x r clear) (ap bodyRefused f ∙ rw t at (at-end h b e)) q
 
 -- the whole area filled with zeros
 pub area-cleared : (before after : List ℕ) → length before ≡ 131072 → after ≡ replicate (length before) 0 → after ≡ blank 131072

@@ -41,13 +41,7 @@ pub fn read_blocks(file: &[u8], from: usize, model: Model, area: &mut [u8]) -> B
     if block_pages::all_there(model, seen) {
         return BodyAnswer::Whole;
     }
-    refused_area(
-        area,
-        Fault {
-            why: Refusal::BlockMissing,
-            place: 0,
-        },
-    )
+    refused_area(area, numbers::no_place(Refusal::BlockMissing))
 }
 
 fn refused_area(area: &mut [u8], fault: Fault) -> BodyAnswer

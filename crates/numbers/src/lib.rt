@@ -1,6 +1,7 @@
 // The numbers that calls answer: document 01's one table, and those that document 02 adds to it.
 ghost use mathlib.Core.Path.{_≡_};
 ghost use Rattle.numbers.specs.Numbers.{numberOf, refusalNumber};
+ghost use Rattle.numbers.specs.Faults.{unplaced};
 
 // Why a call is refused, in the order of the table.
 pub enum Refusal {
@@ -46,6 +47,13 @@ pub enum Answer {
 pub struct Fault {
     pub why: Refusal,
     pub place: usize,
+}
+
+// A fault of a file that has no place in it.
+pub fn no_place(why: Refusal) -> Fault
+    ensures { λ r. ⌜ r ≡ unplaced why ⌝ }
+{
+    Fault { why, place: 0 }
 }
 
 // The numbers of two calls.

@@ -13,8 +13,9 @@ use Rattle.spectrum.specs.declared.Machine.{Machine}
 use Rattle.pages.specs.declared.Model.{Model}
 use Rattle.spectrum.specs.declared.Attachment.{Attachment}
 use Rattle.numbers.specs.declared.Refusal.{Refusal}
+use Rattle.numbers.specs.declared.Fault.{Fault}
+use Rattle.numbers.specs.Faults.{unplaced}
 use Rattle.numbers.specs.declared.Refusal.the-variants.{AreaLength}
-use Rattle.numbers.specs.declared.Answer.{Answer}
 use Rattle.numbers.specs.declared.Answer.the-variants.{Accepted, Refused}
 use Rattle.numbers.proofs.Numbers.{refused-not}
 use Rattle.spectrum.specs.Machine.{blankMachine}
@@ -29,51 +30,55 @@ use Rattle.header.specs.Inner.{Readable}
 use Rattle.header.proofs.HeadSteps.{long-30}
 use Rattle.header.proofs.AcceptedHeads.{opens}
 use Rattle.header_read.proofs.MachineValid.{machine-valid}
+use Rattle.blocks.specs.declared.BodyAnswer.{BodyAnswer}
+use Rattle.blocks.specs.declared.BodyAnswer.the-variants.{Whole, Faulty}
 use Rattle.blocks.specs.Blocks.{BodyResult, bodyRefused, bodyRead, ReadsBody, blocksInto}
 use Rattle.body_v1.specs.Body.{bodyInto}
 use Rattle.z80read.specs.declared.Opened.{Opened}
 use Rattle.z80read.specs.Read.{memoryInto, ReadResult, refusedRead, afterBody, afterHead, readOf, ReadLeaves, Reads}
 
 -- what a refused read gives beside the area
-abbrev refusedOpened : Refusal → Opened
-refusedOpened why = record { answer = Refused why; machine = blankMachine }
+abbrev refusedOpened : Fault → Opened
+refusedOpened fault = record { answer = Refused (fault .why); place = fault .place; machine = blankMachine }
 
 -- what follows the header, by version
-module _ (v : Version) (model : Model) (area s : List ℕ) (r : Answer) (after : List ℕ) where
-  pub memory-1 : (b : ℕ) → b ≡ byte12Of s → v ≡ V1 → ReadsBody (bodyInto (eqb (b / 32 % 2) 1) area (drop 30 s)) r after → ReadsBody (memoryInto v model area s) r after
+module _ (v : Version) (model : Model) (area s : List ℕ) (r : BodyAnswer) (after : List ℕ) where
+  pub memory-1 : (b : ℕ) → b ≡ byte12Of s → v ≡ V1 → ReadsBody (bodyInto (eqb (b / 32 % 2) 1) area 30 (drop 30 s)) r after → ReadsBody (memoryInto v model area s) r after
   memory-1 b e q t = rw (q, ← e) t
 
-  pub memory-2 : v ≡ V2 → ReadsBody (blocksInto model area (drop 55 s)) r after → ReadsBody (memoryInto v model area s) r after
+  pub memory-2 : v ≡ V2 → ReadsBody (blocksInto model area 55 (drop 55 s)) r after → ReadsBody (memoryInto v model area s) r after
   memory-2 q t = rw q t
 
-  pub memory-3 : v ≡ V3 → ReadsBody (blocksInto model area (drop 86 s)) r after → ReadsBody (memoryInto v model area s) r after
+  pub memory-3 : v ≡ V3 → ReadsBody (blocksInto model area 86 (drop 86 s)) r after → ReadsBody (memoryInto v model area s) r after
   memory-3 q t = rw q t
 
 pub at-12 : (v : Version) (n : ℕ) → headerLength v ≤ n → 12 < n
 at-12 v n h = let k = long-30 v n h in omega arith
 
 -- the answer of what follows the header decides
-module _ (x : BodyResult) (m : Machine) (n : ℕ) (answer : Answer) (after : List ℕ) (t : ReadsBody x answer after) where
-  pub on-refused : (why : Refusal) (r : Opened) → answer ≡ Refused why → r ≡ refusedOpened why → n ≡ 131072 → ReadLeaves (afterBody x m n) r after
+module _ (x : BodyResult) (m : Machine) (n : ℕ) (answer : BodyAnswer) (after : List ℕ) (t : ReadsBody x answer after) where
+  pub on-refused : (fault : Fault) (r : Opened) → answer ≡ Faulty fault → r ≡ refusedOpened fault → n ≡ 131072 → ReadLeaves (afterBody x m n) r after
   unfolding blank
-  on-refused why r e q l = go x t
+  on-refused fault r e q l = go x t
     where
       go : (x : BodyResult) → ReadsBody x answer after → ReadLeaves (afterBody x m n) r after
       go (bodyRefused w) t =
-          let z : Refused w ≡ Refused why = sym (t .0) ∙ e in
+          let z : Faulty w ≡ Faulty fault = sym (t .0) ∙ e in
+          let f : w ≡ fault = cc in
           record {
-            answer = ap (λ (o : Opened). o .answer) q ∙ sym z;
+            answer = ap (λ (o : Opened). o .answer) q ∙ sym (ap (λ (x : Fault). Refused (x .why)) f);
+            place = ap (λ (o : Opened). o .place) q ∙ sym (ap (λ (x : Fault). x .place) f);
             machine = ap (λ (o : Opened). o .machine) q;
             memory = t .1 ∙ sym (ap (λ (k : ℕ). replicate k 0) l);
           }
-      go (bodyRead a) t = absurd (refused-not why (sym e ∙ t .0))
+      go (bodyRead a) t = let z : _≡_ {A = ℕ} 0 1 = cc in absurd (omega arith)
 
-  pub on-accepted : (machine : Machine) (r : Opened) → answer ≡ Accepted → machine ≡ m → r .answer ≡ Accepted → r .machine ≡ machine → ReadLeaves (afterBody x m n) r after
-  on-accepted machine r e q a b = go x t
+  pub on-accepted : (machine : Machine) (r : Opened) → answer ≡ Whole → machine ≡ m → r .answer ≡ Accepted → r .place ≡ 0 → r .machine ≡ machine → ReadLeaves (afterBody x m n) r after
+  on-accepted machine r e q a p b = go x t
     where
       go : (x : BodyResult) → ReadsBody x answer after → ReadLeaves (afterBody x m n) r after
-      go (bodyRefused w) t = absurd (refused-not w (sym (t .0) ∙ e))
-      go (bodyRead area) t = record { answer = a; machine = b ∙ q; memory = t .1 }
+      go (bodyRefused w) t = let z : _≡_ {A = ℕ} 0 1 = cc in absurd (omega arith)
+      go (bodyRead area) t = record { answer = a; place = p; machine = b ∙ q; memory = t .1 }
 
 -- a refusal is not accepted, so nothing is said of its machine
 no-machine : (o : ReadResult) (why : Refusal) (r : Opened) (area : List ℕ) → ReadLeaves o r area → r .answer ≡ Refused why → Reads o r area
@@ -86,27 +91,28 @@ module _ (s before clear : List ℕ) (c₀ : clear ≡ take 0 before ++ replicat
   clear-long : length clear ≡ length before
   clear-long = ap length c ∙ length-replicate (length before) 0
 
-  read-none : (o : ReadResult) (why : Refusal) (r : Opened) → r ≡ refusedOpened why → o ≡ refusedRead why (length before) → Reads o r clear
-  read-none o why r q e =
-      no-machine o why r clear
+  read-none : (o : ReadResult) (fault : Fault) (r : Opened) → r ≡ refusedOpened fault → o ≡ refusedRead fault (length before) → Reads o r clear
+  read-none o fault r q e =
+      no-machine o (fault .why) r clear
       (record {
         answer = ap (λ (x : Opened). x .answer) q ∙ sym (ap (λ (x : ReadResult). x .answer) e);
+        place = ap (λ (x : Opened). x .place) q ∙ sym (ap (λ (x : ReadResult). x .place) e);
         machine = ap (λ (x : Opened). x .machine) q ∙ sym (ap (λ (x : ReadResult). x .machine) e);
         memory = c ∙ sym (ap (λ (x : ReadResult). x .memory) e);
       })
       (ap (λ (x : Opened). x .answer) q)
 
-  pub read-length : (r : Opened) → (length clear ≡ 131072 → ⊥) → r ≡ refusedOpened AreaLength → Reads (readOf s (length before)) r clear
+  pub read-length : (fault : Fault) (r : Opened) → (length clear ≡ 131072 → ⊥) → fault ≡ unplaced AreaLength → r ≡ refusedOpened fault → Reads (readOf s (length before)) r clear
   unfolding readOf
-  read-length r h q = read-none _ AreaLength r q (rw (ne-eqb (length before) 131072 (λ e. h (clear-long ∙ e))))
+  read-length fault r h f q = read-none _ (unplaced AreaLength) r (q ∙ ap refusedOpened f) (rw (ne-eqb (length before) 131072 (λ e. h (clear-long ∙ e))))
 
   module _ (h : length clear ≡ 131072) (head : Head) (eh : head ≡ headOf s) where
     read-after-head : afterHead head s (length before) ≡ readOf s (length before)
     unfolding readOf
     read-after-head = rw (eq-eqb (length before) 131072 (sym clear-long ∙ h), ← eh)
 
-    pub read-refused : (why : Refusal) (r : Opened) → head ≡ Head.Refused why → r ≡ refusedOpened why → Reads (readOf s (length before)) r clear
-    read-refused why r e q = read-none _ why r q (sym read-after-head ∙ ap (λ (x : Head). afterHead x s (length before)) e)
+    pub read-refused : (why : Refusal) (fault : Fault) (r : Opened) → head ≡ Head.Refused why → fault ≡ unplaced why → r ≡ refusedOpened fault → Reads (readOf s (length before)) r clear
+    read-refused why fault r e f q = read-none _ (unplaced why) r (q ∙ ap refusedOpened f) (sym read-after-head ∙ ap (λ (x : Head). afterHead x s (length before)) e)
 
     pub is-blank : clear ≡ blank 131072
     unfolding blank
@@ -130,5 +136,5 @@ module _ (s before clear : List ℕ) (c₀ : clear ≡ take 0 before ++ replicat
           }
         where
           valid : (x : BodyResult) → ReadLeaves (afterBody x (machineOf v model a s) (length before)) r area → r .answer ≡ Accepted → validOf (r .machine) ≡ true
-          valid (bodyRefused w) l g = absurd (refused-not w (sym (l .answer) ∙ g))
+          valid (bodyRefused w) l g = absurd (refused-not (w .why) (sym (l .answer) ∙ g))
           valid (bodyRead m) l g = ap validOf (l .machine) ∙ machine-valid s v model a (sym eh ∙ e)

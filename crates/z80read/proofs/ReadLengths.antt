@@ -24,16 +24,16 @@ use Rattle.body_v1.proofs.BodyLengths.{body-most}
 use Rattle.z80read.specs.Read.{memoryInto, ReadResult, afterBody, afterHead, readOf}
 
 module _ (s : List ℕ) (n : ℕ) (w : (i : ℕ) → getD s i 0 < 256) where
-  blocks-after : (k : ℕ) (model : Model) (area a : List ℕ) → k ≤ 86 → blocksInto model area (drop k s) ≡ bodyRead a → length s ≤ 524382
-  blocks-after k model area a h e = omega (arith, blocks-most model area (drop k s) a (λ i. rw (getD-drop k s i 0) (w (k + i))) e, length-drop k s)
+  blocks-after : (k : ℕ) (model : Model) (area a : List ℕ) → k ≤ 86 → blocksInto model area k (drop k s) ≡ bodyRead a → length s ≤ 524382
+  blocks-after k model area a h e = omega (arith, blocks-most model area k (drop k s) a (λ i. rw (getD-drop k s i 0) (w (k + i))) e, length-drop k s)
 
   memory-most : (v : Version) (model : Model) (area a : List ℕ) → memoryInto v model area s ≡ bodyRead a → length s ≤ 524382
-  memory-most V1 model area a e = omega (arith, body-most (bitAt (byte12Of s) 32) area (drop 30 s) a e, length-drop 30 s)
+  memory-most V1 model area a e = omega (arith, body-most (bitAt (byte12Of s) 32) area 30 (drop 30 s) a e, length-drop 30 s)
   memory-most V2 model area a e = blocks-after 55 model area a (omega arith) e
   memory-most V3 model area a e = blocks-after 86 model area a (omega arith) e
 
   result-most : (x : BodyResult) (m : Machine) → ((a : List ℕ) → x ≡ bodyRead a → length s ≤ 524382) → afterBody x m n .answer ≡ Accepted → length s ≤ 524382
-  result-most (bodyRefused why) m f e = let z : _≡_ {A = ℕ} 0 1 = cc in absurd (omega arith)
+  result-most (bodyRefused fault) m f e = let z : _≡_ {A = ℕ} 0 1 = cc in absurd (omega arith)
   result-most (bodyRead a) m f e = f a refl
 
   head-most : (h : Head) → afterHead h s n .answer ≡ Accepted → length s ≤ 524382

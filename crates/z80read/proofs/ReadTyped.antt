@@ -10,6 +10,7 @@ use Rattle.slices.specs.Blank.{blank}
 use Rattle.spectrum.specs.declared.Machine.{Machine}
 use Rattle.numbers.specs.declared.Refusal.the-variants.{AreaLength}
 use Rattle.numbers.specs.declared.Answer.the-variants.{Accepted}
+use Rattle.numbers.specs.Faults.{unplaced}
 use Rattle.spectrum.specs.Valid.{Typed}
 use Rattle.numbers.proofs.Numbers.{refused-not}
 use Rattle.header.specs.declared.Head.{Head}
@@ -22,7 +23,7 @@ use Rattle.blocks.specs.Blocks.{BodyResult, bodyRefused, bodyRead}
 use Rattle.z80read.specs.Read.{ReadResult, memoryInto, refusedRead, afterBody, afterHead, readOf}
 
 result-typed : (x : BodyResult) (m : Machine) (n : ℕ) → Typed m → afterBody x m n .answer ≡ Accepted → Typed (afterBody x m n .machine)
-result-typed (bodyRefused w) m n t e = absurd (refused-not w e)
+result-typed (bodyRefused w) m n t e = absurd (refused-not (w .why) e)
 result-typed (bodyRead area) m n t e = t
 
 pub read-typed : (s : List ℕ) (n : ℕ) → ((i : ℕ) → getD s i 0 < 256) → readOf s n .answer ≡ Accepted → Typed (readOf s n .machine)
@@ -30,7 +31,7 @@ unfolding readOf
 read-typed s n h = go (eqb n 131072) (headOf s) refl
   where
     o : Bool → Head → ReadResult
-    o t x = choose t (afterHead x s n) (refusedRead AreaLength n)
+    o t x = choose t (afterHead x s n) (refusedRead (unplaced AreaLength) n)
 
     go : (t : Bool) (x : Head) → headOf s ≡ x → o t x .answer ≡ Accepted → Typed (o t x .machine)
     go true (Head.Refused w) q e = absurd (refused-not w e)

@@ -1,7 +1,9 @@
 // Reading a .Z80 file, v1, v2 or v3, into a machine and a lent area of 131,072 bytes.
+use blocks::BodyAnswer;
 use header::Head;
 use header::Version;
 use numbers::Answer;
+use numbers::Fault;
 use numbers::Refusal;
 use pages::Model;
 use spectrum::Attachment;
@@ -18,9 +20,10 @@ ghost use Rattle.header.specs.Inner.{Readable};
 ghost use Rattle.blocks.specs.Blocks.{ReadsBody};
 ghost use Rattle.z80read.specs.Read.{memoryInto, afterBody, readOf, ReadLeaves, Reads};
 
-// What reading gives beside the area: the answer, and the machine.
+// What reading gives beside the area: the answer, the place in the file that is named with it, and the machine.
 pub struct Opened {
     pub answer: Answer,
+    pub place: usize,
     pub machine: Machine,
 }
 
@@ -30,11 +33,11 @@ pub fn read(file: &[u8], area: &mut [u8]) -> Opened
 {
     slices::clear_from(area, 0);
     if area.len() != 131072 {
-        return refused_file(Refusal::AreaLength);
+        return refused_file(numbers::no_place(Refusal::AreaLength));
     }
     let head = header::read_head(file);
     match head {
-        Head::Refused(why) => return refused_file(why),
+        Head::Refused(why) => return refused_file(numbers::no_place(why)),
         Head::Header {
             version,
             model,
@@ -56,8 +59,8 @@ fn read_on(
 {
     let answer = read_memory(file, version, model, area);
     match answer {
-        Answer::Refused(why) => return refused_file(why),
-        Answer::Accepted => {
+        BodyAnswer::Faulty(fault) => return refused_file(fault),
+        BodyAnswer::Whole => {
             let machine = header_read::read_machine(file, version, model, attachment);
             return accepted_file(machine);
         }
@@ -65,7 +68,7 @@ fn read_on(
 }
 
 // What follows the header, into an area of zeros. Refused, the area is all zero.
-fn read_memory(file: &[u8], version: Version, model: Model, area: &mut [u8]) -> Answer
+fn read_memory(file: &[u8], version: Version, model: Model, area: &mut [u8]) -> BodyAnswer
     requires { ⌜ (headerLength version ≤ length (now file)) × ((length (now area) ≡ 131072) × (now area ≡ blank 131072)) ⌝ }
     ensures { λ r. ⌜ ReadsBody (memoryInto version model (now (area .entry)) (now (file .entry))) r (now (area .exit)) ⌝ }
 {
@@ -80,19 +83,22 @@ fn read_memory(file: &[u8], version: Version, model: Model, area: &mut [u8]) -> 
 }
 
 fn accepted_file(machine: Machine) -> Opened
-    ensures { λ r. ⌜ (r .answer ≡ Accepted) × (r .machine ≡ machine) ⌝ }
+    ensures { λ r. ⌜ (r .answer ≡ Accepted) × ((r .place ≡ 0) × (r .machine ≡ machine)) ⌝ }
 {
     Opened {
         answer: Answer::Accepted,
+        place: 0,
         machine: machine,
     }
 }
 
-fn refused_file(why: Refusal) -> Opened
-    ensures { λ r. ⌜ r ≡ record { answer = Refused why; machine = blankMachine } ⌝ }
+fn refused_file(fault: Fault) -> Opened
+    ensures { λ r. ⌜ r ≡ record { answer = Refused (fault .why); place = fault .place; machine = blankMachine } ⌝ }
 {
+    let why = fault.why;
     Opened {
         answer: Answer::Refused(why),
+        place: fault.place,
         machine: Machine::blank(),
     }
 }

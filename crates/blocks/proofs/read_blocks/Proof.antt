@@ -52,6 +52,9 @@ same-length-2 c = search needs
 returns-2 : tie.Need-returns-2 Inv-loop μ-loop
 returns-2 c = search going-all
 
+no-place-requires : tie.Need-no-place-requires Inv-loop μ-loop
+no-place-requires c κs = search needs
+
 refused-area-requires-2 : tie.Need-refused-area-requires-2 Inv-loop μ-loop
 refused-area-requires-2 c κs = search needs
 
@@ -80,6 +83,7 @@ read-blocks-spec =
     all-there-requires
     same-length-2
     returns-2
+    no-place-requires
     refused-area-requires-2
     same-length-3
     returns-3)

@@ -6,6 +6,9 @@ use Rattle.z80read.proofs.read.Tie as tie
 clear-from-requires : tie.Need-clear-from-requires
 clear-from-requires c κs = search needs
 
+no-place-requires : tie.Need-no-place-requires
+no-place-requires c κs = search needs
+
 refused-file-requires : tie.Need-refused-file-requires
 refused-file-requires c κs = search needs
 
@@ -20,6 +23,9 @@ read-head-requires c κs = search needs
 
 enum-known-head : tie.Need-enum-known-head
 enum-known-head c = search needs
+
+no-place-requires-2 : tie.Need-no-place-requires-2
+no-place-requires-2 c κs = search needs
 
 refused-file-requires-2 : tie.Need-refused-file-requires-2
 refused-file-requires-2 c κs = search needs
@@ -47,11 +53,13 @@ read-spec =
     tie.close
     (tie.spec
     clear-from-requires
+    no-place-requires
     refused-file-requires
     same-length
     returns
     read-head-requires
     enum-known-head
+    no-place-requires-2
     refused-file-requires-2
     same-length-2
     returns-2
