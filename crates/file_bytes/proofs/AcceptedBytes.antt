@@ -22,7 +22,7 @@ pub through-0 : (o : ReadResult) (n k : ℕ) → readThrough o n k .answer ≡ 0
 through-0 o n k = go (eqb k 86)
   where
     z : Bool → ReadBytes
-    z t = choose t (readInBytes o) (record { answer = badHeader; area = replicate n 0; header = replicate k 0 })
+    z t = choose t (readInBytes o) (record { answer = badHeader; place = 0; area = replicate n 0; header = replicate k 0 })
 
     go : (t : Bool) → z t .answer ≡ 0 → (o .answer ≡ Accepted) × (z t ≡ readInBytes o)
     go true e = (number-0 _ e, refl)

@@ -22,19 +22,20 @@ use Rattle.file_bytes.specs.Files.{ReadBytes, readInBytes, readOfBytes, 
 
 -- what a read came to, over an area of n bytes and a header of k
 abbrev pub readThrough : ReadResult → ℕ → ℕ → ReadBytes
-readThrough o n k = choose (eqb k 86) (readInBytes o) (record { answer = badHeader; area = replicate n 0; header = replicate k 0 })
+readThrough o n k = choose (eqb k 86) (readInBytes o) (record { answer = badHeader; place = 0; area = replicate n 0; header = replicate k 0 })
 
-module _ (o : ReadResult) (before head : List ℕ) (r : ℕ) where
-  pub through-other : (area zeros : List ℕ) → (length head ≡ 86 → ⊥) → area ≡ replicate (length before) 0 → zeros ≡ replicate (length head) 0 → r ≡ numberOf (Refused InvalidMachine)
-      → ReadsBytes (readThrough o (length before) (length head)) r area zeros
-  through-other area zeros h a z e = rw (ne-eqb (length head) 86 h) (record { answer = e; area = a; header = z })
+module _ (o : ReadResult) (before head : List ℕ) (r place : ℕ) where
+  pub through-other : (area zeros : List ℕ) → (length head ≡ 86 → ⊥) → area ≡ replicate (length before) 0 → zeros ≡ replicate (length head) 0 → place ≡ 0 → r ≡ numberOf (Refused InvalidMachine)
+      → ReadsBytes (readThrough o (length before) (length head)) r place area zeros
+  through-other area zeros h a z l e = rw (ne-eqb (length head) 86 h) (record { answer = e; place = l; area = a; header = z })
 
   pub through-86 : (area made : List ℕ) (x : Opened) → length head ≡ 86 → Reads o x area → made ≡ headerOf (x .machine) ++ drop 86 head
-      → r ≡ numberOf (x .answer) → ReadsBytes (readThrough o (length before) (length head)) r area made
-  through-86 area made x h p q e =
+      → place ≡ x .place → r ≡ numberOf (x .answer) → ReadsBytes (readThrough o (length before) (length head)) r place area made
+  through-86 area made x h p q l e =
       rw (eq-eqb (length head) 86 h)
       (record {
         answer = e ∙ ap numberOf (p .leaves .answer);
+        place = l ∙ p .leaves .place;
         area = p .leaves .memory;
         header = q ∙ ap (λ (l : List ℕ). headerOf (x .machine) ++ l) (drop-of-length-le head {i = 86} (omega arith)) ∙ append-nil (headerOf (x .machine)) ∙ ap headerOf (p .leaves .machine);
       })
@@ -51,16 +52,16 @@ module _ (o : WriteResult) (t : DecodedHeader) (n r size : ℕ) (out : List ℕ)
   through-none c z s e = rw c (record { answer = e; size = s; out = z })
 
 -- .Z80 files
-module _ (file before head : List ℕ) (r : ℕ) where
-  pub read-other : (area zeros : List ℕ) → (length head ≡ 86 → ⊥) → area ≡ replicate (length before) 0 → zeros ≡ replicate (length head) 0 → r ≡ numberOf (Refused InvalidMachine)
-      → ReadsBytes (readOfBytes file (length before) (length head)) r area zeros
+module _ (file before head : List ℕ) (r place : ℕ) where
+  pub read-other : (area zeros : List ℕ) → (length head ≡ 86 → ⊥) → area ≡ replicate (length before) 0 → zeros ≡ replicate (length head) 0 → place ≡ 0 → r ≡ numberOf (Refused InvalidMachine)
+      → ReadsBytes (readOfBytes file (length before) (length head)) r place area zeros
   unfolding readOfBytes
-  read-other area zeros h a z e = through-other (readOf file (length before)) before head r area zeros h a z e
+  read-other area zeros h a z l e = through-other (readOf file (length before)) before head r place area zeros h a z l e
 
   pub read-86 : (area made : List ℕ) (x : Opened) → length head ≡ 86 → Reads (readOf file (length before)) x area → made ≡ headerOf (x .machine) ++ drop 86 head
-      → r ≡ numberOf (x .answer) → ReadsBytes (readOfBytes file (length before) (length head)) r area made
+      → place ≡ x .place → r ≡ numberOf (x .answer) → ReadsBytes (readOfBytes file (length before) (length head)) r place area made
   unfolding readOfBytes
-  read-86 area made x h p q e = through-86 (readOf file (length before)) before head r area made x h p q e
+  read-86 area made x h p q l e = through-86 (readOf file (length before)) before head r place area made x h p q l e
 
 module _ (head area before : List ℕ) (r size : ℕ) (out : List ℕ) (t : DecodedHeader) (et : t ≡ decodedOf head) where
   pub write-taken : (w : Written) → t .canonical ≡ true → Writes (writtenOf (t .machine) area (length before)) w out → size ≡ w .length → r ≡ numberOf (w .answer)

@@ -12,20 +12,21 @@ use Rattle.header_canonical.specs.Canonical.{decodedOf, badHeader}
 use Rattle.z80read.specs.Read.{ReadResult, readOf}
 use Rattle.z80write.specs.Written.{WriteResult, writtenOf}
 
--- what reading leaves: the number, the area and the header
+-- what reading leaves: the number, the place in the file that is named with it, the area and the header
 pub record ReadBytes : Type 0 where
   pub answer : ℕ
+  pub place : ℕ
   pub area : List ℕ
   pub header : List ℕ
 
 -- "A refused read leaves the blank machine's header there (zeros at another length)"
 abbrev pub readInBytes : ReadResult → ReadBytes
-readInBytes o = record { answer = numberOf (o .answer); area = o .memory; header = headerOf (o .machine) }
+readInBytes o = record { answer = numberOf (o .answer); place = o .place; area = o .memory; header = headerOf (o .machine) }
 
 -- the file read into an area of n bytes and a header of k bytes
 unfoldable pub readOfBytes : List ℕ → ℕ → ℕ → ReadBytes
 readOfBytes file n k =
-    choose (eqb k 86) (readInBytes (readOf file n)) (record { answer = badHeader; area = replicate n 0; header = replicate k 0 })
+    choose (eqb k 86) (readInBytes (readOf file n)) (record { answer = badHeader; place = 0; area = replicate n 0; header = replicate k 0 })
 
 -- what writing leaves: the number, the length and the output
 pub record WriteBytes : Type 0 where
@@ -46,8 +47,9 @@ unfoldable pub writeOfBytes : List ℕ → List ℕ → ℕ → WriteBytes
 writeOfBytes header area n = writeDecoded (decodedOf header) area n
 
 -- the promises: every number and byte is the definition's
-pub record ReadsBytes (o : ReadBytes) (r : ℕ) (a h : List ℕ) : Type 0 where
+pub record ReadsBytes (o : ReadBytes) (r p : ℕ) (a h : List ℕ) : Type 0 where
   pub answer : r ≡ o .answer
+  pub place : p ≡ o .place
   pub area : a ≡ o .area
   pub header : h ≡ o .header
 

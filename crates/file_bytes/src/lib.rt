@@ -4,18 +4,20 @@ use numbers::Refusal;
 ghost use lib.ListN.{length};
 ghost use Rattle.file_bytes.specs.Files.{readOfBytes, ReadsBytes, writeOfBytes, WritesBytes};
 
-// A .Z80 file into an area of 131,072 bytes and a header of 86.
-pub fn read(file: &[u8], area: &mut [u8], head: &mut [u8]) -> u32
-    ensures { λ r. ⌜ ReadsBytes (readOfBytes (now (file .entry)) (length (now (area .entry))) (length (now (head .entry)))) r (now (area .exit)) (now (head .exit)) ⌝ }
+// A .Z80 file into an area of 131,072 bytes and a header of 86; the offset in the file that is named with the number, or 0.
+pub fn read(file: &[u8], area: &mut [u8], head: &mut [u8], offset: &mut u64) -> u32
+    ensures { λ r. ⌜ ReadsBytes (readOfBytes (now (file .entry)) (length (now (area .entry))) (length (now (head .entry)))) r (now (offset .exit)) (now (area .exit)) (now (head .exit)) ⌝ }
 {
     if head.len() != 86 {
         slices::fill(area, 0);
         slices::fill(head, 0);
+        *offset = 0;
         return numbers::number(Answer::Refused(Refusal::InvalidMachine));
     }
     let opened = z80read::read(file, area);
     let m = opened.machine;
     let answer = opened.answer;
+    *offset = opened.place as u64;
     m.typed();
     header_write::write_header(m, head);
     numbers::number(answer)

@@ -10,6 +10,7 @@ use borrow.Author.Tests.{lt-ltb, le-ltb, le-leb, lt-leb, eq-eqb, ne-eqb}
 use Rattle.slices.specs.Choose.{choose}
 use Rattle.slices.specs.Bytes.{at}
 use Rattle.numbers.specs.declared.Refusal.the-variants.{BlockCut, ScsBlockTwice}
+use Rattle.numbers.specs.Faults.{faultAt}
 use Rattle.scs_blocks.specs.declared.ScsPart.{ScsPart}
 use Rattle.scs_blocks.specs.declared.ScsPart.the-variants.{Stands}
 use Rattle.scs_blocks.specs.declared.ScsSeen.{ScsSeen}
@@ -30,9 +31,9 @@ scs-begin file from = record { turns = length file; enough = omega arith; same =
 abbrev pub blockFrom : List ℕ → ℕ → ℕ → ScsSeen → ScsFound
 blockFrom s turns place seen =
     choose (eqb (at s place) 0) (Blocks seen)
-    (choose (ltb (length s) (place + 5)) (Bad BlockCut)
-    (choose (ltb (length s) (place + 5 + sizeAt s (place + 1))) (Bad BlockCut)
-    (choose (isThere (partOf seen (at s place))) (Bad ScsBlockTwice)
+    (choose (ltb (length s) (place + 5)) (Bad (faultAt place BlockCut))
+    (choose (ltb (length s) (place + 5 + sizeAt s (place + 1))) (Bad (faultAt place BlockCut))
+    (choose (isThere (partOf seen (at s place))) (Bad (faultAt place ScsBlockTwice))
     (blocksFrom s turns (place + 5 + sizeAt s (place + 1)) (noted seen (at s place) (Stands (place + 5) (sizeAt s (place + 1))))))))
 
 pub one-turn : (s : List ℕ) (turns place : ℕ) (seen : ScsSeen) → place < length s → blocksFrom s (suc turns) place seen ≡ blockFrom s turns place seen
@@ -60,16 +61,16 @@ module _ (file : List ℕ) (all : ScsFound) (seen : ScsSeen) (place : ℕ) (g : 
     found-end e = rw (eq-eqb (at file place) 0 e) at (block-to-come .1 .1)
 
     module _ (n : at file place ≡ 0 → ⊥) where
-      pub cut-head : length file - place < 5 → Bad BlockCut ≡ all
+      pub cut-head : length file - place < 5 → Bad (faultAt place BlockCut) ≡ all
       cut-head l = rw (ne-eqb (at file place) 0 n, lt-ltb (length file) (place + 5) (omega arith)) at (block-to-come .1 .1)
 
       module _ (l : 5 ≤ length file - place) (size : ℕ) (e : size ≡ sizeAt file (place + 1)) where
-        pub cut-data : length file - place - 5 < size → Bad BlockCut ≡ all
+        pub cut-data : length file - place - 5 < size → Bad (faultAt place BlockCut) ≡ all
         cut-data k =
             rw (ne-eqb (at file place) 0 n, le-ltb (length file) (place + 5) (omega arith), ← e, lt-ltb (length file) (place + 5 + size) (omega arith)) at (block-to-come .1 .1)
 
         module _ (k : size ≤ length file - place - 5) (part : ScsPart) (p : part ≡ partOf seen (at file place)) (there : Bool) (t : there ≡ isThere part) where
-          pub seen-twice : there ≡ true → Bad ScsBlockTwice ≡ all
+          pub seen-twice : there ≡ true → Bad (faultAt place ScsBlockTwice) ≡ all
           seen-twice q =
               rw (ne-eqb (at file place) 0 n, le-ltb (length file) (place + 5) (omega arith), ← e, le-ltb (length file) (place + 5 + size) (omega arith), ← p, ← t, q) at (block-to-come .1 .1)
 

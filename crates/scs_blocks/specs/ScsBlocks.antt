@@ -8,6 +8,7 @@ use lib.Dec.{eqb, leb, ltb}
 use Rattle.slices.specs.Choose.{choose, both}
 use Rattle.slices.specs.Bytes.{at}
 use Rattle.numbers.specs.declared.Refusal.the-variants.{BlockCut, ScsBlockTwice}
+use Rattle.numbers.specs.Faults.{faultAt}
 use Rattle.scs_blocks.specs.declared.ScsPart.{ScsPart}
 use Rattle.scs_blocks.specs.declared.ScsPart.the-variants.{Absent, Stands}
 use Rattle.scs_blocks.specs.declared.ScsSeen.{ScsSeen}
@@ -43,15 +44,15 @@ abbrev pub threeSeen : ScsSeen → Bool
 threeSeen seen = both (isThere (seen .cpu)) (both (isThere (seen .ports)) (isThere (seen .memory)))
 
 -- Block after block from a place on: "a clean stop without it is accepted"; "A byte 0 at a block's start ends the file, what follows unread";
--- "8 if cut", its head or its data; "42 a second block 1, 2 or 3". A block has five bytes or more, so as many turns as bytes are enough.
+-- "8 if cut", its head or its data; "42 a second block 1, 2 or 3"; both at the block's head. A block has five bytes or more, so as many turns as bytes are enough.
 unfoldable pub blocksFrom : List ℕ → ℕ → ℕ → ScsSeen → ScsFound
 blocksFrom s zero place seen = Blocks seen
 blocksFrom s (suc turns) place seen =
     choose (leb (length s) place) (Blocks seen)
     (choose (eqb (at s place) 0) (Blocks seen)
-    (choose (ltb (length s) (place + 5)) (Bad BlockCut)
-    (choose (ltb (length s) (place + 5 + sizeAt s (place + 1))) (Bad BlockCut)
-    (choose (isThere (partOf seen (at s place))) (Bad ScsBlockTwice)
+    (choose (ltb (length s) (place + 5)) (Bad (faultAt place BlockCut))
+    (choose (ltb (length s) (place + 5 + sizeAt s (place + 1))) (Bad (faultAt place BlockCut))
+    (choose (isThere (partOf seen (at s place))) (Bad (faultAt place ScsBlockTwice))
     (blocksFrom s turns (place + 5 + sizeAt s (place + 1)) (noted seen (at s place) (Stands (place + 5) (sizeAt s (place + 1)))))))))
 
 -- the blocks of the file s from a place on

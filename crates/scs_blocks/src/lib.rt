@@ -1,4 +1,5 @@
 // The blocks of an SCS file: one pass that notes where the data of the CPU, Ports and Memory blocks stand, and copies nothing.
+use numbers::Fault;
 use numbers::Refusal;
 ghost use Prim.Native.Nat.{_+_, _≤_};
 ghost use mathlib.Core.Path.{_≡_};
@@ -20,7 +21,7 @@ pub struct ScsSeen {
 }
 
 pub enum ScsFound {
-    Bad(Refusal),
+    Bad(Fault),
     Blocks(ScsSeen),
 }
 
@@ -41,15 +42,18 @@ pub fn find_blocks(file: &[u8], from: usize) -> ScsFound
         }
         let left = file.len() - place;
         if left < 5 {
-            return ScsFound::Bad(Refusal::BlockCut);
+            let why = Refusal::BlockCut;
+            return ScsFound::Bad(Fault { why, place });
         }
         let size = size_at(file, place + 1);
         if left - 5 < size {
-            return ScsFound::Bad(Refusal::BlockCut);
+            let why = Refusal::BlockCut;
+            return ScsFound::Bad(Fault { why, place });
         }
         let part = part_of(seen, number);
         if is_there(part) {
-            return ScsFound::Bad(Refusal::ScsBlockTwice);
+            let why = Refusal::ScsBlockTwice;
+            return ScsFound::Bad(Fault { why, place });
         }
         seen = note(seen, number, place + 5, size);
         place = place + 5 + size;

@@ -20,16 +20,16 @@ use Rattle.scs_read.specs.ScsReads.{scsReadOf}
 use Rattle.scs_write.specs.ScsWritten.{scsWrittenOf}
 use Rattle.scs_bytes.specs.ScsBytes.{scsReadOfBytes, scsWriteOfBytes}
 
-module _ (file before head : List ℕ) (r : ℕ) where
+module _ (file before head : List ℕ) (r place : ℕ) where
   pub scs-read-other : (area zeros : List ℕ) → (length head ≡ 86 → ⊥) → area ≡ replicate (length before) 0 → zeros ≡ replicate (length head) 0
-      → r ≡ numberOf (Refused InvalidMachine) → ReadsBytes (scsReadOfBytes file (length before) (length head)) r area zeros
+      → place ≡ 0 → r ≡ numberOf (Refused InvalidMachine) → ReadsBytes (scsReadOfBytes file (length before) (length head)) r place area zeros
   unfolding scsReadOfBytes
-  scs-read-other area zeros h a z e = through-other (scsReadOf file (length before)) before head r area zeros h a z e
+  scs-read-other area zeros h a z l e = through-other (scsReadOf file (length before)) before head r place area zeros h a z l e
 
   pub scs-read-86 : (area made : List ℕ) (x : Opened) → length head ≡ 86 → Reads (scsReadOf file (length before)) x area → made ≡ headerOf (x .machine) ++ drop 86 head
-      → r ≡ numberOf (x .answer) → ReadsBytes (scsReadOfBytes file (length before) (length head)) r area made
+      → place ≡ x .place → r ≡ numberOf (x .answer) → ReadsBytes (scsReadOfBytes file (length before) (length head)) r place area made
   unfolding scsReadOfBytes
-  scs-read-86 area made x h p q e = through-86 (scsReadOf file (length before)) before head r area made x h p q e
+  scs-read-86 area made x h p q l e = through-86 (scsReadOf file (length before)) before head r place area made x h p q l e
 
 module _ (head area before : List ℕ) (r size : ℕ) (out : List ℕ) (t : DecodedHeader) (et : t ≡ decodedOf head) where
   pub scs-write-taken : (w : Written) → t .canonical ≡ true → Writes (scsWrittenOf (t .machine) area (length before)) w out → size ≡ w .length → r ≡ numberOf (w .answer)

@@ -13,7 +13,7 @@ use Rattle.scs_write.specs.ScsWritten.{scsWrittenOf}
 -- the file read into an area of n bytes and a header of k bytes
 unfoldable pub scsReadOfBytes : List ℕ → ℕ → ℕ → ReadBytes
 scsReadOfBytes file n k =
-    choose (eqb k 86) (readInBytes (scsReadOf file n)) (record { answer = badHeader; area = replicate n 0; header = replicate k 0 })
+    choose (eqb k 86) (readInBytes (scsReadOf file n)) (record { answer = badHeader; place = 0; area = replicate n 0; header = replicate k 0 })
 
 -- the file of a header's machine and area into an output of n bytes
 abbrev pub scsWriteDecoded : DecodedHeader → List ℕ → ℕ → WriteBytes

@@ -9,6 +9,8 @@ use borrow.Author.Tests.{eq-eqb, ne-eqb, eqb-false}
 use Rattle.slices.proofs.Chosen.{either}
 use Rattle.pages.specs.declared.Model.{Model}
 use Rattle.numbers.specs.declared.Refusal.{Refusal}
+use Rattle.numbers.specs.declared.Fault.{Fault}
+use Rattle.numbers.specs.Faults.{unplaced}
 use Rattle.numbers.specs.declared.Refusal.the-variants.{AreaLength}
 use Rattle.numbers.specs.declared.Answer.the-variants.{Accepted}
 use Rattle.numbers.proofs.Numbers.{refused-not}
@@ -27,8 +29,8 @@ use Rattle.scs_head.specs.ScsHeads.{scsHeadOf}
 use Rattle.scs_read.specs.ScsReads.{afterSeen, afterFound, afterScsHead, scsReadOf}
 
 -- a refusal is not accepted, so nothing is said of its machine
-refused-reads : (o : ReadResult) (why : Refusal) (n : ℕ) (r : Opened) (area : List ℕ) → refusedRead why n ≡ o → ReadLeaves (refusedRead why n) r area → Reads o r area
-refused-reads o why n r area e l = subst (λ (x : ReadResult). Reads x r area) e (record { leaves = l; valid = λ a. absurd (refused-not why (sym (l .answer) ∙ a)) })
+refused-reads : (o : ReadResult) (fault : Fault) (n : ℕ) (r : Opened) (area : List ℕ) → refusedRead fault n ≡ o → ReadLeaves (refusedRead fault n) r area → Reads o r area
+refused-reads o fault n r area e l = subst (λ (x : ReadResult). Reads x r area) e (record { leaves = l; valid = λ a. absurd (refused-not (fault .why) (sym (l .answer) ∙ a)) })
 
 -- what is loaded is valid where it is accepted
 loaded-valid : (seen : ScsSeen) (model : Model) (s : List ℕ) (n : ℕ) → afterSeen seen model s n .answer ≡ Accepted → validOf (afterSeen seen model s n .machine) ≡ true
@@ -40,24 +42,27 @@ loaded-valid seen model s n =
     (λ t a. absurd (refused-not _ a))
 
 module _ (s area : List ℕ) (r : Opened) (after : List ℕ) where
-  pub scs-length : (length area ≡ 131072 → ⊥) → ReadLeaves (refusedRead AreaLength (length area)) r after → Reads (scsReadOf s (length area)) r after
+  pub scs-length : (fault : Fault) → (length area ≡ 131072 → ⊥) → fault ≡ unplaced AreaLength → ReadLeaves (refusedRead fault (length area)) r after → Reads (scsReadOf s (length area)) r after
   unfolding scsReadOf
-  scs-length h l = refused-reads _ AreaLength (length area) r after (rw (ne-eqb (length area) 131072 h)) l
+  scs-length fault h f l = refused-reads _ fault (length area) r after (rw (ne-eqb (length area) 131072 h, f)) l
 
   module _ (h : length area ≡ 131072) (head : ScsHead) (eh : head ≡ scsHeadOf s) where
     scs-after-head : afterScsHead head s (length area) ≡ scsReadOf s (length area)
     unfolding scsReadOf
     scs-after-head = rw (eq-eqb (length area) 131072 h, ← eh)
 
-    pub scs-head-refused : (why : Refusal) → head ≡ ScsHead.Bad why → ReadLeaves (refusedRead why (length area)) r after → Reads (scsReadOf s (length area)) r after
-    scs-head-refused why e l = refused-reads _ why (length area) r after (sym (ap (λ (x : ScsHead). afterScsHead x s (length area)) e) ∙ scs-after-head) l
+    pub scs-head-refused : (why : Refusal) (fault : Fault) → head ≡ ScsHead.Bad why → fault ≡ unplaced why → ReadLeaves (refusedRead fault (length area)) r after
+        → Reads (scsReadOf s (length area)) r after
+    scs-head-refused why fault e f l =
+        refused-reads _ fault (length area) r after
+        (ap (λ (x : Fault). refusedRead x (length area)) f ∙ sym (ap (λ (x : ScsHead). afterScsHead x s (length area)) e) ∙ scs-after-head) l
 
     module _ (model : Model) (em : head ≡ Spectrum model) (found : ScsFound) (ef : found ≡ scsBlocks s 15) where
       after-found : afterFound found model s (length area) ≡ scsReadOf s (length area)
       after-found = ap (λ (x : ScsFound). afterFound x model s (length area)) ef ∙ sym (ap (λ (x : ScsHead). afterScsHead x s (length area)) em) ∙ scs-after-head
 
-      pub scs-blocks-refused : (why : Refusal) → found ≡ Bad why → ReadLeaves (refusedRead why (length area)) r after → Reads (scsReadOf s (length area)) r after
-      scs-blocks-refused why e l = refused-reads _ why (length area) r after (sym (ap (λ (x : ScsFound). afterFound x model s (length area)) e) ∙ after-found) l
+      pub scs-blocks-refused : (fault : Fault) → found ≡ Bad fault → ReadLeaves (refusedRead fault (length area)) r after → Reads (scsReadOf s (length area)) r after
+      scs-blocks-refused fault e l = refused-reads _ fault (length area) r after (sym (ap (λ (x : ScsFound). afterFound x model s (length area)) e) ∙ after-found) l
 
       module _ (seen : ScsSeen) (e : found ≡ Blocks seen) where
         pub scs-read : ReadLeaves (afterSeen seen model s (length area)) r after → Reads (scsReadOf s (length area)) r after

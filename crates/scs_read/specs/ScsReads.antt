@@ -6,8 +6,8 @@ use lib.Dec.{eqb}
 use Rattle.slices.specs.Choose.{choose}
 use Rattle.pages.specs.declared.Model.{Model}
 use Rattle.numbers.specs.declared.Refusal.the-variants.{AreaLength, InterruptMode, ScsBlockMissing}
-use Rattle.numbers.specs.declared.Answer.the-variants.{Accepted}
-use Rattle.z80read.specs.Read.{ReadResult, refusedRead}
+use Rattle.numbers.specs.Faults.{unplaced}
+use Rattle.z80read.specs.Read.{ReadResult, refusedRead, acceptedRead}
 use Rattle.scs_blocks.specs.declared.ScsSeen.{ScsSeen}
 use Rattle.scs_blocks.specs.declared.ScsFound.{ScsFound}
 use Rattle.scs_blocks.specs.declared.ScsFound.the-variants.{Bad, Blocks}
@@ -21,23 +21,23 @@ use Rattle.scs_head.specs.ScsHeads.{scsHeadOf}
 -- the machine and the memory of three blocks' data: 34 bytes are due of CPU, 19 of Ports; "last 5"
 abbrev pub scsLoaded : Model → List ℕ → List ℕ → List ℕ → ℕ → ReadResult
 scsLoaded model cpu ports memory n =
-    choose (eqb (scsMode (zeroFilled 34 cpu)) 3) (refusedRead InterruptMode n)
-    (record { answer = Accepted; machine = scsMachine model (zeroFilled 34 cpu) (zeroFilled 19 ports); memory = scsMemory model memory })
+    choose (eqb (scsMode (zeroFilled 34 cpu)) 3) (refusedRead (unplaced InterruptMode) n)
+    (acceptedRead (scsMachine model (zeroFilled 34 cpu) (zeroFilled 19 ports)) (scsMemory model memory))
 
 -- "41 one of them missing"
 abbrev pub afterSeen : ScsSeen → Model → List ℕ → ℕ → ReadResult
 afterSeen seen model s n =
-    choose (threeSeen seen) (scsLoaded model (dataOf s (seen .cpu)) (dataOf s (seen .ports)) (dataOf s (seen .memory)) n) (refusedRead ScsBlockMissing n)
+    choose (threeSeen seen) (scsLoaded model (dataOf s (seen .cpu)) (dataOf s (seen .ports)) (dataOf s (seen .memory)) n) (refusedRead (unplaced ScsBlockMissing) n)
 
 abbrev pub afterFound : ScsFound → Model → List ℕ → ℕ → ReadResult
-afterFound (Bad why) model s n = refusedRead why n
+afterFound (Bad fault) model s n = refusedRead fault n
 afterFound (Blocks seen) model s n = afterSeen seen model s n
 
 -- the blocks begin at byte 15
 abbrev pub afterScsHead : ScsHead → List ℕ → ℕ → ReadResult
-afterScsHead (ScsHead.Bad why) s n = refusedRead why n
+afterScsHead (ScsHead.Bad why) s n = refusedRead (unplaced why) n
 afterScsHead (Spectrum model) s n = afterFound (scsBlocks s 15) model s n
 
 -- the file s read into an area of n bytes: nothing but its length is known of the area
 unfoldable pub scsReadOf : List ℕ → ℕ → ReadResult
-scsReadOf s n = choose (eqb n 131072) (afterScsHead (scsHeadOf s) s n) (refusedRead AreaLength n)
+scsReadOf s n = choose (eqb n 131072) (afterScsHead (scsHeadOf s) s n) (refusedRead (unplaced AreaLength) n)

@@ -1,6 +1,7 @@
 // Reading an SCS file with a Spectrum inside, already unwrapped, into a machine and a lent area of 131,072 bytes. The blocks are looked
 // through before anything is copied.
 use numbers::Answer;
+use numbers::Fault;
 use numbers::Refusal;
 use pages::Model;
 use scs_blocks::ScsFound;
@@ -20,27 +21,29 @@ pub fn read(file: &[u8], area: &mut [u8]) -> Opened
     ensures { λ r. ⌜ Reads (scsReadOf (now (file .entry)) (length (now (area .entry)))) r (now (area .exit)) ⌝ }
 {
     if area.len() != 131072 {
-        return refused_scs(area, Refusal::AreaLength);
+        return refused_scs(area, numbers::no_place(Refusal::AreaLength));
     }
     let head = scs_head::read_scs_head(file);
     match head {
-        ScsHead::Bad(why) => return refused_scs(area, why),
+        ScsHead::Bad(why) => return refused_scs(area, numbers::no_place(why)),
         ScsHead::Spectrum(model) => {
             let found = scs_blocks::find_blocks(file, 15);
             match found {
-                ScsFound::Bad(why) => return refused_scs(area, why),
+                ScsFound::Bad(fault) => return refused_scs(area, fault),
                 ScsFound::Blocks(seen) => return load(file, model, seen, area),
             }
         }
     }
 }
 
-fn refused_scs(area: &mut [u8], why: Refusal) -> Opened
-    ensures { λ r. ⌜ ReadLeaves (refusedRead why (length (now (area .entry)))) r (now (area .exit)) ⌝ }
+fn refused_scs(area: &mut [u8], fault: Fault) -> Opened
+    ensures { λ r. ⌜ ReadLeaves (refusedRead fault (length (now (area .entry)))) r (now (area .exit)) ⌝ }
 {
     slices::fill(area, 0);
+    let why = fault.why;
     Opened {
         answer: Answer::Refused(why),
+        place: fault.place,
         machine: Machine::blank(),
     }
 }
@@ -56,17 +59,18 @@ fn load(file: &[u8], model: Model, seen: ScsSeen, area: &mut [u8]) -> Opened
     if scs_blocks::saw_all(seen) {
         let cpu = cpu_of(file, cpu_part);
         if cpu[26] % 4 == 3 {
-            return refused_scs(area, Refusal::InterruptMode);
+            return refused_scs(area, numbers::no_place(Refusal::InterruptMode));
         }
         let ports = ports_of(file, ports_part);
         scs_memory::load_memory(scs_blocks::data_of(file, memory_part), model, area);
         let machine = scs_machine::machine_from(model, cpu, ports);
         return Opened {
             answer: Answer::Accepted,
+            place: 0,
             machine: machine,
         };
     }
-    refused_scs(area, Refusal::ScsBlockMissing)
+    refused_scs(area, numbers::no_place(Refusal::ScsBlockMissing))
 }
 
 fn cpu_of(file: &[u8], part: ScsPart) -> [u8; 34]

@@ -18,12 +18,17 @@ pub extern "C" fn snap_version() -> u32
     version_number::current()
 }
 
-// A .Z80 file into an area of 131,072 bytes and a header of 86.
+// A .Z80 file into an area of 131,072 bytes and a header of 86; the offset in the file that is named with the number, or 0.
 #[no_mangle]
-pub extern "C" fn snap_z80_read(file: &[u8], area: &mut [u8], head: &mut [u8]) -> u32
-    ensures { λ r. ⌜ ReadsBytes (readOfBytes (now (file .entry)) (length (now (area .entry))) (length (now (head .entry)))) r (now (area .exit)) (now (head .exit)) ⌝ }
+pub extern "C" fn snap_z80_read(
+    file: &[u8],
+    area: &mut [u8],
+    head: &mut [u8],
+    offset: &mut u64,
+) -> u32
+    ensures { λ r. ⌜ ReadsBytes (readOfBytes (now (file .entry)) (length (now (area .entry))) (length (now (head .entry)))) r (now (offset .exit)) (now (area .exit)) (now (head .exit)) ⌝ }
 {
-    file_bytes::read(file, area, head)
+    file_bytes::read(file, area, head, offset)
 }
 
 // A header and its area into the one v3 file.
@@ -34,12 +39,17 @@ pub extern "C" fn snap_z80_write(head: &[u8], area: &[u8], out: &mut [u8], size:
     file_bytes::write(head, area, out, size)
 }
 
-// An SCS file into an area of 131,072 bytes and a header of 86.
+// An SCS file into an area of 131,072 bytes and a header of 86; the offset in the file that is named with the number, or 0.
 #[no_mangle]
-pub extern "C" fn snap_scs_read(file: &[u8], area: &mut [u8], head: &mut [u8]) -> u32
-    ensures { λ r. ⌜ ReadsBytes (scsReadOfBytes (now (file .entry)) (length (now (area .entry))) (length (now (head .entry)))) r (now (area .exit)) (now (head .exit)) ⌝ }
+pub extern "C" fn snap_scs_read(
+    file: &[u8],
+    area: &mut [u8],
+    head: &mut [u8],
+    offset: &mut u64,
+) -> u32
+    ensures { λ r. ⌜ ReadsBytes (scsReadOfBytes (now (file .entry)) (length (now (area .entry))) (length (now (head .entry)))) r (now (offset .exit)) (now (area .exit)) (now (head .exit)) ⌝ }
 {
-    scs_bytes::read(file, area, head)
+    scs_bytes::read(file, area, head, offset)
 }
 
 // A header and its area into the one SCS file.

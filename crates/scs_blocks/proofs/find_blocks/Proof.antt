@@ -43,7 +43,11 @@ is-there-requires : tie.Need-is-there-requires Inv-loop μ-loop
 is-there-requires c κs = search needs
 
 returns-4 : tie.Need-returns-4 Inv-loop μ-loop
-returns-4 c = search seen-twice
+returns-4 c =
+    let b = c .before .before .before in
+    let l = b .before .before .before in
+    seen-twice _ _ _ _ (l .before .before .before .loop .inv) (search needs) (l .if1 .left) (search needs) _ (b .before .size-at .ensures) (search needs) _ (c .before .before .part-of .ensures) _
+    (c .before .is-there .ensures) (c .if4 .taken)
 
 add-note : tie.Need-add-note Inv-loop μ-loop
 add-note c = search needs

@@ -12,6 +12,9 @@ cpu-of-requires c κs = search needs
 array-read-if2 : tie.Need-array-read-if2
 array-read-if2 c = search needs
 
+no-place-requires : tie.Need-no-place-requires
+no-place-requires c κs = search needs
+
 refused-scs-requires : tie.Need-refused-scs-requires
 refused-scs-requires c κs = search needs
 
@@ -39,6 +42,9 @@ same-length-2 c = search needs
 returns-2 : tie.Need-returns-2
 returns-2 c = search loads-all
 
+no-place-requires-2 : tie.Need-no-place-requires-2
+no-place-requires-2 c κs = search needs
+
 refused-scs-requires-2 : tie.Need-refused-scs-requires-2
 refused-scs-requires-2 c κs = search needs
 
@@ -55,6 +61,7 @@ load-spec =
     saw-all-requires
     cpu-of-requires
     array-read-if2
+    no-place-requires
     refused-scs-requires
     same-length
     returns
@@ -64,6 +71,7 @@ load-spec =
     machine-from-requires
     same-length-2
     returns-2
+    no-place-requires-2
     refused-scs-requires-2
     same-length-3
     returns-3)

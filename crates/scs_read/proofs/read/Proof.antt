@@ -3,6 +3,9 @@ use borrow.Author.Needs.{needs}
 use Rattle.scs_read.proofs.read.Statement.{statement}
 use Rattle.scs_read.proofs.read.Tie as tie
 
+no-place-requires : tie.Need-no-place-requires
+no-place-requires c κs = search needs
+
 refused-scs-requires : tie.Need-refused-scs-requires
 refused-scs-requires c κs = search needs
 
@@ -17,6 +20,9 @@ read-scs-head-requires c κs = search needs
 
 enum-known-head : tie.Need-enum-known-head
 enum-known-head c = search needs
+
+no-place-requires-2 : tie.Need-no-place-requires-2
+no-place-requires-2 c κs = search needs
 
 refused-scs-requires-2 : tie.Need-refused-scs-requires-2
 refused-scs-requires-2 c κs = search needs
@@ -61,11 +67,13 @@ pub read-spec : {M : Type 1} → statement M
 read-spec =
     tie.close
     (tie.spec
+    no-place-requires
     refused-scs-requires
     same-length
     returns
     read-scs-head-requires
     enum-known-head
+    no-place-requires-2
     refused-scs-requires-2
     same-length-2
     returns-2
