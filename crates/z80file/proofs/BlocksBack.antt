@@ -17,13 +17,14 @@ use Rattle.packed.specs.Packed.Promise.{unpacked-packed}
 use Rattle.pages.specs.declared.Model.{Model}
 use Rattle.pages.specs.declared.Model.the-variants.{K48, K128}
 use Rattle.numbers.specs.declared.Refusal.the-variants.{BlockMissing}
+use Rattle.numbers.specs.Faults.{unplaced}
 use Rattle.pages.specs.Pages.{slots, pageAmong, owned, pageIn}
 use Rattle.pages.proofs.Inside.{page-long}
 use Rattle.block_pages.specs.declared.Page.the-variants.{At}
 use Rattle.block_read.specs.Block.{Block, brought, sizeOf, contents, onPage, blockOf}
 use Rattle.blocks.specs.Blocks.{bodyRead, bodyRefused, afterBlock, finished, blocks, noneSeen, blocksInto}
 use Rattle.block_pages.specs.Numbered.{pageOf, allThere}
-use Rattle.blocks.proofs.BlocksSoFar.{turn, ended}
+use Rattle.blocks.proofs.BlocksSoFar.{onward, turn, ended}
 use Rattle.pages.specs.declared.Slot.{Slot}
 use Rattle.block_write.specs.BlockFor.{blockFor}
 use Rattle.blocks_write.specs.Laid.{laid}
@@ -31,27 +32,27 @@ use Rattle.z80file.specs.Clean.{Clean}
 use Rattle.z80file.proofs.PagesOfArea.{page-at, put-long, put-here, put-elsewhere, blank-at, blank-long}
 
 -- the block at the front of a list that holds it whole
-front-block : (model : Model) (seen : List Bool) (s : List ℕ) (n size : ℕ) → wordAt s 0 ≡ n → size ≡ sizeOf n → 3 + size ≤ length s
-    → blockOf model seen s ≡ onPage (pageOf model (getD s 2 0)) seen (contents (eqb n 65535) (take size (drop 3 s))) (drop (3 + size) s)
+front-block : (model : Model) (seen : List Bool) (place : ℕ) (s : List ℕ) (n size : ℕ) → wordAt s 0 ≡ n → size ≡ sizeOf n → 3 + size ≤ length s
+    → blockOf model seen place s ≡ onPage place (pageOf model (getD s 2 0)) seen (contents (eqb n 65535) (take size (drop 3 s))) (drop (3 + size) s)
 unfolding blockOf
-front-block model seen s n size en es g =
+front-block model seen place s n size en es g =
     rw (le-ltb (length s) 3 (omega arith), en, ← es, le-ltb (length s) (3 + size) g)
 
 -- head, data, rest: what they bring
-module _ (model : Model) (seen : List Bool) (number page : ℕ) (p rest : List ℕ) (f : pageOf model number ≡ At page) (u : getD seen page false ≡ false) (l : length p ≡ 16384) where
+module _ (model : Model) (seen : List Bool) (place number page : ℕ) (p rest : List ℕ) (f : pageOf model number ≡ At page) (u : getD seen page false ≡ false) (l : length p ≡ 16384) where
   brings-of : (a b n size : ℕ) (d : List ℕ) → a + 256 * b ≡ n → size ≡ sizeOf n → length d ≡ size → contents (eqb n 65535) d ≡ bytes p
-      → blockOf model seen (a ∷ b ∷ number ∷ (d ++ rest)) ≡ brought page p rest
+      → blockOf model seen place (a ∷ b ∷ number ∷ (d ++ rest)) ≡ brought page p rest
   brings-of a b n size d en es ed ec =
       let s = a ∷ b ∷ number ∷ (d ++ rest) in
-      front-block model seen s n size en es (omega (arith, length-append d rest))
+      front-block model seen place s n size en es (omega (arith, length-append d rest))
       ∙ rw (← drop-drop size 3 s, f, u, take-at d rest size ed, drop-at d rest size ed, ec, l)
 
-  one-block : blockOf model seen (blockFor number p ++ rest) ≡ brought page p rest
+  one-block : blockOf model seen place (blockFor number p ++ rest) ≡ brought page p rest
   unfolding blockFor
   one-block = go (ltb (length (packed p)) 16384) refl
     where
       go : (b : Bool) → ltb (length (packed p)) 16384 ≡ b
-          → blockOf model seen (choose b (length (packed p) % 256 ∷ length (packed p) / 256 ∷ number ∷ packed p) (255 ∷ 255 ∷ number ∷ p) ++ rest) ≡ brought page p rest
+          → blockOf model seen place (choose b (length (packed p) % 256 ∷ length (packed p) / 256 ∷ number ∷ packed p) (255 ∷ 255 ∷ number ∷ p) ++ rest) ≡ brought page p rest
       go true h =
           let n = length (packed p) in
           let small : n < 16384 = ltb-true n 16384 h in
@@ -89,9 +90,9 @@ abbrev Fresh : Model → List Bool → List Slot → Type 0
 Fresh model seen [] = Unit {0}
 Fresh model seen (x ∷ more) = (pageOf model (x .number) ≡ At (x .page)) × ((getD seen (x .page) false ≡ false) × ((x .page < 8) × Fresh model (set seen (x .page) true) more))
 
-record ReadsBack (model : Model) (turns : ℕ) (seen : List Bool) (a s : List ℕ) (seen′ : List Bool) (t : List ℕ) : Type 0 where
+record ReadsBack (model : Model) (turns : ℕ) (seen : List Bool) (a : List ℕ) (place : ℕ) (s : List ℕ) (seen′ : List Bool) (t : List ℕ) : Type 0 where
   last : List ℕ
-  reading : blocks model turns seen a s ≡ finished model seen′ last
+  reading : blocks model turns seen a place s ≡ finished model seen′ last
   long : length last ≡ 131072
   agree : Agree last seen′ t
 
@@ -107,34 +108,34 @@ longer : (number : ℕ) (p rest : List ℕ) → length rest < length (blockFor n
 longer number p rest = omega (arith, length-append (blockFor number p) rest, block-some number p)
 
 -- a block before blocks that read
-one-more : (model : Model) (turns number page : ℕ) (seen seen′ : List Bool) (a p rest t : List ℕ)
+one-more : (model : Model) (turns place number page : ℕ) (seen seen′ : List Bool) (a p rest t : List ℕ)
     → pageOf model number ≡ At page → getD seen page false ≡ false → length p ≡ 16384
-    → ReadsBack model turns (set seen page true) (put a (page * 16384) p) rest seen′ t → ReadsBack model (suc turns) seen a (blockFor number p ++ rest) seen′ t
-one-more model turns number page seen seen′ a p rest t f u l r =
+    → ReadsBack model turns (set seen page true) (put a (page * 16384) p) (place + (length (blockFor number p ++ rest) - length rest)) rest seen′ t
+    → ReadsBack model (suc turns) seen a place (blockFor number p ++ rest) seen′ t
+one-more model turns place number page seen seen′ a p rest t f u l r =
     record {
       last = r .last;
       reading =
-          turn model turns seen a (blockFor number p ++ rest) (omega (arith, longer number p rest))
-          ∙ ap (λ (y : Block). afterBlock y (λ page xs rest. blocks model turns (set seen page true) (put a (page * 16384) xs) rest))
-          (one-block model seen number page p rest f u l)
+          turn model turns seen a place (blockFor number p ++ rest) (omega (arith, longer number p rest))
+          ∙ ap (λ (y : Block). afterBlock y (onward model turns seen a place (blockFor number p ++ rest))) (one-block model seen place number page p rest f u l)
           ∙ r .reading;
       long = r .long;
       agree = r .agree;
     }
 
 -- by induction over the blocks that are left
-laid-read : (model : Model) (t : List ℕ) → length t ≡ 131072 → (more : List Slot) (turns : ℕ) (seen : List Bool) (a : List ℕ)
+laid-read : (model : Model) (t : List ℕ) → length t ≡ 131072 → (more : List Slot) (turns : ℕ) (seen : List Bool) (a : List ℕ) (place : ℕ)
     → length (laid more t) ≤ turns → Fresh model seen more → length seen ≡ 8 → length a ≡ 131072 → Agree a seen t
-    → ReadsBack model turns seen a (laid more t) (flagsAfter seen more) t
+    → ReadsBack model turns seen a place (laid more t) (flagsAfter seen more) t
 unfolding laid
-laid-read model t lt [] turns seen a h f ls la g = record { last = a; reading = ended model turns seen a [] refl; long = la; agree = g }
-laid-read model t lt (x ∷ more) zero seen a h f ls la g = absurd (omega (arith, longer (x .number) (pageIn t (x .page)) (laid more t)))
-laid-read model t lt (x ∷ more) (suc turns) seen a h f ls la g =
+laid-read model t lt [] turns seen a place h f ls la g = record { last = a; reading = ended model turns seen a place [] refl; long = la; agree = g }
+laid-read model t lt (x ∷ more) zero seen a place h f ls la g = absurd (omega (arith, longer (x .number) (pageIn t (x .page)) (laid more t)))
+laid-read model t lt (x ∷ more) (suc turns) seen a place h f ls la g =
     let p = pageIn t (x .page) in
     let k = f .1 .1 .0 in
     let lp = page-long t (x .page) lt k in
-    one-more model turns (x .number) (x .page) seen _ a p (laid more t) t (f .0) (f .1 .0) lp
-    (laid-read model t lt more turns (set seen (x .page) true) _ (omega (arith, longer (x .number) p (laid more t))) (f .1 .1 .1)
+    one-more model turns place (x .number) (x .page) seen _ a p (laid more t) t (f .0) (f .1 .0) lp
+    (laid-read model t lt more turns (set seen (x .page) true) _ _ (omega (arith, longer (x .number) p (laid more t))) (f .1 .1 .1)
     (length-set seen (x .page) true ∙ ls) (put-long a p (x .page) la lp k) (agree-more a t seen (x .page) la lt ls k g))
 
 fresh : (model : Model) → Fresh model noneSeen (slots model)
@@ -221,11 +222,11 @@ same-area model t last s l g = ext-getD 0 last t (l ∙ sym (s .long)) (λ i h. 
     go i h false e = g i h ∙ rw (seen-owned model (i / 16384) (omega arith), e) (blank-at 131072 i h ∙ sym (s .clear i h e))
 
 -- the round trip of the blocks
-pub blocks-back : (model : Model) (area : List ℕ) → Clean model area → blocksInto model (blank 131072) (laid (slots model) area) ≡ bodyRead area
+pub blocks-back : (model : Model) (area : List ℕ) (place : ℕ) → Clean model area → blocksInto model (blank 131072) place (laid (slots model) area) ≡ bodyRead area
 unfolding blocksInto
-blocks-back model area s =
-    let r = laid-read model area (s .long) (slots model) (length (laid (slots model) area)) noneSeen (blank 131072) (omega arith) (fresh model) refl (blank-long 131072) (agree-blank area) in
+blocks-back model area place s =
+    let r = laid-read model area (s .long) (slots model) (length (laid (slots model) area)) noneSeen (blank 131072) place (omega arith) (fresh model) refl (blank-long 131072) (agree-blank area) in
     let e : r .last ≡ area = same-area model area (r .last) s (r .long) (r .agree) in
     r .reading
-    ∙ ap (λ (b : Bool). choose b (bodyRead (r .last)) (bodyRefused BlockMissing)) (all-slots-there model)
+    ∙ ap (λ (b : Bool). choose b (bodyRead (r .last)) (bodyRefused (unplaced BlockMissing))) (all-slots-there model)
     ∙ ap bodyRead e

@@ -14,7 +14,8 @@ use Rattle.slices.specs.Blank.{blank}
 use Rattle.packed.specs.Packed.{Found, malformed, unpacked, bytes}
 use Rattle.pages.specs.declared.Model.{Model}
 use Rattle.pages.specs.declared.Model.the-variants.{K48}
-use Rattle.numbers.specs.declared.Refusal.{Refusal}
+use Rattle.numbers.specs.declared.Fault.{Fault}
+use Rattle.numbers.specs.Faults.{faultAt, unplaced}
 use Rattle.numbers.specs.declared.Refusal.the-variants.{BlockCut, BlockTwice, UnpackedLength, BlockMissing, EndMarker}
 use Rattle.pages.specs.Pages.{owned}
 use Rattle.block_pages.specs.declared.Page.{Page}
@@ -24,48 +25,50 @@ use Rattle.blocks.specs.Blocks.{BodyResult, bodyRefused, bodyRead, afterBlock, 
 use Rattle.block_pages.specs.Numbered.{pageOf, allThere}
 use Rattle.pages.proofs.PageSteps.{owned-small}
 use Rattle.block_pages.proofs.BlockNumbers.{page-owned}
+use Rattle.blocks.proofs.BlocksSoFar.{onward}
 use Rattle.body_v1.specs.Body.{spread, spreadFrom, marked, bodyInto}
 use Rattle.z80file.specs.Clean.{Clean}
 use Rattle.z80file.proofs.PagesOfArea.{put-long, put-elsewhere, blank-at, blank-long}
 
 abbrev OwnedBlock : Model → Block → Type 0
-OwnedBlock model (refused why) = Unit {0}
+OwnedBlock model (refused fault) = Unit {0}
 OwnedBlock model (brought page xs rest) = (owned model page ≡ true) × ((page < 8) × (length xs ≡ 16384))
 
 -- an area that is given is clean
 abbrev pub CleanBody : Model → BodyResult → Type 0
-CleanBody model (bodyRefused why) = Unit {0}
+CleanBody model (bodyRefused fault) = Unit {0}
 CleanBody model (bodyRead a) = Clean model a
 
-owned-refuse : (model : Model) (b : Bool) (why : Refusal) (x : Block) → OwnedBlock model x → OwnedBlock model (choose b (refused why) x)
-owned-refuse model true why x g = tt
-owned-refuse model false why x g = g
+owned-refuse : (model : Model) (b : Bool) (fault : Fault) (x : Block) → OwnedBlock model x → OwnedBlock model (choose b (refused fault) x)
+owned-refuse model true fault x g = tt
+owned-refuse model false fault x g = g
 
-owned-data : (model : Model) (d : Found) (page : ℕ) (rest : List ℕ) → owned model page ≡ true → page < 8 → OwnedBlock model (pageFrom d page rest)
-owned-data model malformed page rest o h = tt
-owned-data model (bytes xs) page rest o h = go (eqb (length xs) 16384) refl
+owned-data : (model : Model) (place : ℕ) (d : Found) (page : ℕ) (rest : List ℕ) → owned model page ≡ true → page < 8 → OwnedBlock model (pageFrom place d page rest)
+owned-data model place (malformed i) page rest o h = tt
+owned-data model place (bytes xs) page rest o h = go (eqb (length xs) 16384) refl
   where
-    go : (b : Bool) → eqb (length xs) 16384 ≡ b → OwnedBlock model (choose b (brought page xs rest) (refused UnpackedLength))
+    go : (b : Bool) → eqb (length xs) 16384 ≡ b → OwnedBlock model (choose b (brought page xs rest) (refused (faultAt place UnpackedLength)))
     go true e = (o, (h, eqb-true _ _ e))
     go false e = tt
 
 pub owned-page : (model : Model) (n p : ℕ) → pageOf model n ≡ At p → (owned model p ≡ true) × (p < 8)
 owned-page model n p e = let o = page-owned model n p e in (o, owned-small model p o)
 
-owned-on : (model : Model) (n : ℕ) (f : Page) (seen : List Bool) (d : Found) (r : List ℕ) → pageOf model n ≡ f → OwnedBlock model (onPage f seen d r)
-owned-on model n NoPage seen d r e = tt
-owned-on model n (At p) seen d r e =
+owned-on : (model : Model) (place n : ℕ) (f : Page) (seen : List Bool) (d : Found) (r : List ℕ) → pageOf model n ≡ f → OwnedBlock model (onPage place f seen d r)
+owned-on model place n NoPage seen d r e = tt
+owned-on model place n (At p) seen d r e =
     let o = owned-page model n p e in
-    owned-refuse model (getD seen p false) BlockTwice (pageFrom d p r) (owned-data model d p r (o .0) (o .1))
+    owned-refuse model (getD seen p false) (faultAt place BlockTwice) (pageFrom place d p r) (owned-data model place d p r (o .0) (o .1))
 
-owned-block : (model : Model) (seen : List Bool) (s : List ℕ) → OwnedBlock model (blockOf model seen s)
+owned-block : (model : Model) (seen : List Bool) (place : ℕ) (s : List ℕ) → OwnedBlock model (blockOf model seen place s)
 unfolding blockOf
-owned-block model seen s =
+owned-block model seen place s =
     let size = sizeOf (wordAt s 0) in
     let body = contents (eqb (wordAt s 0) 65535) (take size (drop 3 s)) in
-    let on = onPage (pageOf model (getD s 2 0)) seen body (drop (3 + size) s) in
-    owned-refuse model (ltb (length s) 3) BlockCut (choose (ltb (length s) (3 + size)) (refused BlockCut) on)
-    (owned-refuse model (ltb (length s) (3 + size)) BlockCut on (owned-on model (getD s 2 0) (pageOf model (getD s 2 0)) seen body (drop (3 + size) s) refl))
+    let cut = faultAt place BlockCut in
+    let on = onPage place (pageOf model (getD s 2 0)) seen body (drop (3 + size) s) in
+    owned-refuse model (ltb (length s) 3) cut (choose (ltb (length s) (3 + size)) (refused cut) on)
+    (owned-refuse model (ltb (length s) (3 + size)) cut on (owned-on model place (getD s 2 0) (pageOf model (getD s 2 0)) seen body (drop (3 + size) s) refl))
 
 clean-put : (model : Model) (a xs : List ℕ) (page : ℕ) → Clean model a → owned model page ≡ true → page < 8 → length xs ≡ 16384 → Clean model (put a (page * 16384) xs)
 clean-put model a xs page s o h l =
@@ -79,34 +82,34 @@ clean-put model a xs page s o h l =
         let w : true ≡ false = sym o ∙ ap (owned model) (sym q) ∙ e in
         let z : _≡_ {A = ℕ} 0 1 = cc in omega arith
 
-clean-finished : (model : Model) (b : Bool) (a : List ℕ) → Clean model a → CleanBody model (choose b (bodyRead a) (bodyRefused BlockMissing))
+clean-finished : (model : Model) (b : Bool) (a : List ℕ) → Clean model a → CleanBody model (choose b (bodyRead a) (bodyRefused (unplaced BlockMissing)))
 clean-finished model true a s = s
 clean-finished model false a s = tt
 
 clean-then : (model : Model) (x : Block) (f : ℕ → List ℕ → List ℕ → BodyResult) → OwnedBlock model x
     → ((page : ℕ) (xs rest : List ℕ) → owned model page ≡ true → page < 8 → length xs ≡ 16384 → CleanBody model (f page xs rest)) → CleanBody model (afterBlock x f)
-clean-then model (refused why) f g k = tt
+clean-then model (refused fault) f g k = tt
 clean-then model (brought page xs rest) f g k = k page xs rest (g .0) (g .1 .0) (g .1 .1)
 
 clean-choose : (model : Model) (b : Bool) (x y : BodyResult) → CleanBody model x → CleanBody model y → CleanBody model (choose b x y)
 clean-choose model true x y g h = g
 clean-choose model false x y g h = h
 
-clean-turns : (model : Model) (turns : ℕ) (seen : List Bool) (a s : List ℕ) → Clean model a → CleanBody model (blocks model turns seen a s)
+clean-turns : (model : Model) (turns : ℕ) (seen : List Bool) (a : List ℕ) (place : ℕ) (s : List ℕ) → Clean model a → CleanBody model (blocks model turns seen a place s)
 unfolding blocks
-clean-turns model zero seen a s k = clean-finished model (allThere model seen) a k
-clean-turns model (suc turns) seen a s k =
-    let on : ℕ → List ℕ → List ℕ → BodyResult = λ page xs rest. blocks model turns (set seen page true) (put a (page * 16384) xs) rest in
-    clean-choose model (eqb (length s) 0) (finished model seen a) (afterBlock (blockOf model seen s) on) (clean-finished model (allThere model seen) a k)
-    (clean-then model (blockOf model seen s) on (owned-block model seen s)
-    (λ page xs rest o h l. clean-turns model turns (set seen page true) (put a (page * 16384) xs) rest (clean-put model a xs page k o h l)))
+clean-turns model zero seen a place s k = clean-finished model (allThere model seen) a k
+clean-turns model (suc turns) seen a place s k =
+    let on = onward model turns seen a place s in
+    clean-choose model (eqb (length s) 0) (finished model seen a) (afterBlock (blockOf model seen place s) on) (clean-finished model (allThere model seen) a k)
+    (clean-then model (blockOf model seen place s) on (owned-block model seen place s)
+    (λ page xs rest o h l. clean-turns model turns (set seen page true) (put a (page * 16384) xs) (place + (length s - length rest)) rest (clean-put model a xs page k o h l)))
 
 pub clean-blank : (model : Model) → Clean model (blank 131072)
 clean-blank model = record { long = blank-long 131072; clear = λ i h e. blank-at 131072 i h }
 
-pub clean-blocks : (model : Model) (s : List ℕ) → CleanBody model (blocksInto model (blank 131072) s)
+pub clean-blocks : (model : Model) (place : ℕ) (s : List ℕ) → CleanBody model (blocksInto model (blank 131072) place s)
 unfolding blocksInto
-clean-blocks model s = clean-turns model (length s) noneSeen (blank 131072) s (clean-blank model)
+clean-blocks model place s = clean-turns model (length s) noneSeen (blank 131072) place s (clean-blank model)
 
 -- v1: pages 5, 2 and 0 of a 48K machine
 clean-part : (area xs : List ℕ) (page k : ℕ) → length xs ≡ 49152 → Clean K48 area → owned K48 page ≡ true → page < 8 → k + 16384 ≤ 49152
@@ -124,15 +127,17 @@ clean-spread xs l =
     refl (omega arith) (omega arith))
     refl (omega arith) (omega arith)
 
-clean-found : (f : Found) → CleanBody K48 (spreadFrom f (blank 131072))
-clean-found malformed = tt
-clean-found (bytes xs) = go (eqb (length xs) 49152) refl
+clean-found : (place : ℕ) (f : Found) → CleanBody K48 (spreadFrom place f (blank 131072))
+clean-found place (malformed i) = tt
+clean-found place (bytes xs) = go (eqb (length xs) 49152) refl
   where
-    go : (b : Bool) → eqb (length xs) 49152 ≡ b → CleanBody K48 (choose b (bodyRead (spread (blank 131072) xs)) (bodyRefused UnpackedLength))
+    go : (b : Bool) → eqb (length xs) 49152 ≡ b → CleanBody K48 (choose b (bodyRead (spread (blank 131072) xs)) (bodyRefused (faultAt place UnpackedLength)))
     go true e = clean-spread xs (eqb-true _ _ e)
     go false e = tt
 
-pub clean-body : (p : Bool) (s : List ℕ) → CleanBody K48 (bodyInto p (blank 131072) s)
+pub clean-body : (p : Bool) (place : ℕ) (s : List ℕ) → CleanBody K48 (bodyInto p (blank 131072) place s)
 unfolding bodyInto
-clean-body true s = clean-choose K48 (marked s) (spreadFrom (unpacked (take (length s - 4) s)) (blank 131072)) (bodyRefused EndMarker) (clean-found (unpacked (take (length s - 4) s))) tt
-clean-body false s = clean-found (bytes s)
+clean-body true place s =
+    let u = unpacked (take (length s - 4) s) in
+    clean-choose K48 (marked s) (spreadFrom place u (blank 131072)) (bodyRefused (faultAt (place + length s) EndMarker)) (clean-found place u) tt
+clean-body false place s = clean-found place (bytes s)

@@ -33,7 +33,8 @@ use Rattle.header.proofs.AcceptedHeads.{opens}
 use Rattle.header_read.proofs.MachineValid.{machine-valid}
 use Rattle.header_canonical.proofs.HeadBack.{head-back}
 use Rattle.blocks.specs.Blocks.{BodyResult, bodyRefused, bodyRead, blocksInto}
-use Rattle.z80read.specs.Read.{memoryInto, ReadResult, refusedRead, afterBody, afterHead, readOf}
+use Rattle.numbers.specs.Faults.{unplaced}
+use Rattle.z80read.specs.Read.{memoryInto, ReadResult, refusedRead, acceptedRead, afterBody, afterHead, readOf}
 use Rattle.z80write.specs.declared.Written.{Written}
 use Rattle.pages.specs.Pages.{slots}
 use Rattle.blocks_write.specs.Laid.{laid}
@@ -44,16 +45,16 @@ use Rattle.z80file.proofs.CleanAreas.{CleanBody, clean-blocks, clean-bo
 
 -- reading the file of a valid machine and a clean memory gives both back
 pub file-back : (m : Machine) (area : List ℕ) → Typed m → validOf m ≡ true → Clean (m .model) area
-    → readOf (fileOf m area) 131072 ≡ record { answer = Accepted; machine = m; memory = area }
+    → readOf (fileOf m area) 131072 ≡ acceptedRead m area
 unfolding readOf
 file-back m area t h c =
     let v = valid-says m (t .sound) h in
     let rest = laid (slots (m .model)) area in
-    let b : blocksInto (m .model) (blank 131072) (drop 86 (fileOf m area)) ≡ bodyRead area =
-    ap (blocksInto (m .model) (blank 131072)) (drop-at (headerOf m) rest 86 (header-86 m t)) ∙ blocks-back (m .model) area c in
+    let b : blocksInto (m .model) (blank 131072) 86 (drop 86 (fileOf m area)) ≡ bodyRead area =
+    ap (blocksInto (m .model) (blank 131072) 86) (drop-at (headerOf m) rest 86 (header-86 m t)) ∙ blocks-back (m .model) area 86 c in
     ap (λ (x : Head). afterHead x (fileOf m area) 131072) (head-back m rest t v)
     ∙ ap (λ (x : BodyResult). afterBody x (machineOf V3 (m .model) (m .attachment) (fileOf m area)) 131072) b
-    ∙ ap (λ (x : Machine). record { answer = Accepted; machine = x; memory = area }) (machine-back m rest t v)
+    ∙ ap (λ (x : Machine). acceptedRead x area) (machine-back m rest t v)
 
 -- what an accepted write left begins with the file
 pub out-is-file : (m : Machine) (area : List ℕ) (n : ℕ) → writtenOf m area n .answer ≡ Accepted → take (writtenOf m area n .size) (writtenOf m area n .out) ≡ fileOf m area
@@ -90,9 +91,9 @@ pub length-inside : (m : Machine) (area : List ℕ) (n : ℕ) (w : Written) (d :
 length-inside m area n w d g = subst (λ (k : ℕ). k ≤ n) (sym (g .size)) (size-inside m area n)
 
 clean-memory : (v : Version) (model : Model) (s : List ℕ) → (v ≡ V1 → model ≡ K48) → CleanBody model (memoryInto v model (blank 131072) s)
-clean-memory V1 model s f = subst (λ (k : Model). CleanBody k (memoryInto V1 k (blank 131072) s)) (sym (f refl)) (clean-body (bitAt (byte12Of s) 32) (drop 30 s))
-clean-memory V2 model s f = clean-blocks model (drop 55 s)
-clean-memory V3 model s f = clean-blocks model (drop 86 s)
+clean-memory V1 model s f = subst (λ (k : Model). CleanBody k (memoryInto V1 k (blank 131072) s)) (sym (f refl)) (clean-body (bitAt (byte12Of s) 32) 30 (drop 30 s))
+clean-memory V2 model s f = clean-blocks model 55 (drop 55 s)
+clean-memory V3 model s f = clean-blocks model 86 (drop 86 s)
 
 model-is : (v : Version) (model : Model) (a : Attachment) (s : List ℕ) → machineOf v model a s .model ≡ model
 unfolding machineOf
@@ -101,7 +102,7 @@ model-is v model a s = refl
 accepted-start : (s : List ℕ) (n : ℕ) (v : Version) (model : Model) (a : Attachment) (x : BodyResult) → n ≡ 131072 → headOf s ≡ Header v model a → CleanBody model x
     → afterBody x (machineOf v model a s) n .answer ≡ Accepted
     → ReadGives (afterBody x (machineOf v model a s) n .machine) (afterBody x (machineOf v model a s) n .memory) n
-accepted-start s n v model a (bodyRefused w) l e g h = absurd (refused-not w h)
+accepted-start s n v model a (bodyRefused w) l e g h = absurd (refused-not (w .why) h)
 accepted-start s n v model a (bodyRead area) l e g h =
     record {
       whole-area = l;
@@ -114,7 +115,7 @@ unfolding readOf
 read-start s n = go (eqb n 131072) refl (headOf s) refl
   where
     o : Bool → Head → ReadResult
-    o t x = choose t (afterHead x s n) (refusedRead AreaLength n)
+    o t x = choose t (afterHead x s n) (refusedRead (unplaced AreaLength) n)
 
     go : (t : Bool) → eqb n 131072 ≡ t → (x : Head) → headOf s ≡ x → o t x .answer ≡ Accepted → ReadGives (o t x .machine) (o t x .memory) n
     go true e (Head.Refused w) q h = absurd (refused-not w h)

@@ -27,6 +27,7 @@ use Rattle.z80read.specs.Read.{ReadResult, afterBody, afterHead, readOf}
 use Rattle.blocks_write.specs.Laid.{laid}
 use Rattle.z80write.specs.Written.{fileOf, WriteResult, writtenOf}
 use Rattle.z80write.proofs.FileWritten.{written-fits}
+use Rattle.numbers.specs.Faults.{unplaced}
 use Rattle.z80write.proofs.Longest.{file-most}
 use Rattle.z80file.specs.Clean.{Clean}
 use Rattle.z80file.specs.RoundTrip.{BackOf}
@@ -67,7 +68,7 @@ refuted-fixed-machine fixed h =
     omega arith
 
 -- of no blocks all eight are missing
-no-blocks : blocksInto (sample .model) (blank 131072) [] ≡ bodyRefused BlockMissing
+no-blocks : blocksInto (sample .model) (blank 131072) 86 [] ≡ bodyRefused (unplaced BlockMissing)
 unfolding sample blocksInto blocks allThere
 no-blocks = refl
 
@@ -76,7 +77,7 @@ header-alone : readOf (headerOf sample ++ []) 131072 .answer ≡ Refused BlockMi
 unfolding readOf
 header-alone =
     ap (λ (x : Head). afterHead x (headerOf sample ++ []) 131072 .answer) (head-back sample [] sample-typed (valid-says sample (sample-typed .sound) sample-valid))
-    ∙ ap (λ (x : List ℕ). afterBody (blocksInto (sample .model) (blank 131072) x) (machineOf V3 (sample .model) (sample .attachment) (headerOf sample ++ [])) 131072 .answer)
+    ∙ ap (λ (x : List ℕ). afterBody (blocksInto (sample .model) (blank 131072) 86 x) (machineOf V3 (sample .model) (sample .attachment) (headerOf sample ++ [])) 131072 .answer)
     (drop-at (headerOf sample) [] 86 (header-86 sample sample-typed))
     ∙ ap (λ (x : BodyResult). afterBody x (machineOf V3 (sample .model) (sample .attachment) (headerOf sample ++ [])) 131072 .answer) no-blocks
 

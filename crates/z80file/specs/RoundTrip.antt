@@ -5,9 +5,8 @@ use mathlib.Core.Bool.{true}
 use mathlib.Core.List.{List}
 use lib.ListN.{take}
 use Rattle.spectrum.specs.declared.Machine.{Machine}
-use Rattle.numbers.specs.declared.Answer.the-variants.{Accepted}
 use Rattle.spectrum.specs.Valid.{Typed, validOf}
-use Rattle.z80read.specs.Read.{ReadResult, readOf}
+use Rattle.z80read.specs.Read.{ReadResult, acceptedRead, readOf}
 use Rattle.z80write.specs.Written.{WriteResult, writtenOf}
 use Rattle.z80file.specs.Clean.{Clean}
 
@@ -16,7 +15,7 @@ use Rattle.z80file.specs.Clean.{Clean}
 abbrev pub BackOf : (List ℕ → ℕ → ReadResult) → (Machine → List ℕ → ℕ → WriteResult) → Type 0
 BackOf read write =
     (m : Machine) (area : List ℕ) → Typed m → validOf m ≡ true → Clean (m .model) area
-    → read (take (write m area 131182 .size) (write m area 131182 .out)) 131072 ≡ record { answer = Accepted; machine = m; memory = area }
+    → read (take (write m area 131182 .size) (write m area 131182 .out)) 131072 ≡ acceptedRead m area
 
 -- DEMAND 2, of a way to read and a way to write
 pub record FilesOf (read : List ℕ → ℕ → ReadResult) (write : Machine → List ℕ → ℕ → WriteResult) : Type 0 where

@@ -10,7 +10,7 @@ use Rattle.pages.specs.Pages.{owned}
 use Rattle.spectrum.specs.Valid.{Typed, validOf}
 use Rattle.block_pages.specs.declared.Page.the-variants.{At}
 use Rattle.block_pages.specs.Numbered.{pageOf}
-use Rattle.z80read.specs.Read.{readOf}
+use Rattle.z80read.specs.Read.{acceptedRead, readOf}
 use Rattle.z80write.specs.Written.{fileOf, writtenOf}
 use Rattle.z80file.specs.Clean.{Clean, ReadGives}
 use Rattle.z80file.specs.RoundTrip.{BackOf, FilesOf}
@@ -22,7 +22,7 @@ pub record Theorems : Type 0 where
   pub files : FilesOf readOf writtenOf
   -- its last sentence of the file by itself, whatever output it stands in
   pub file-back : (m : Machine) (area : List ℕ) → Typed m → validOf m ≡ true → Clean (m .model) area
-      → readOf (fileOf m area) 131072 ≡ record { answer = Accepted; machine = m; memory = area }
+      → readOf (fileOf m area) 131072 ≡ acceptedRead m area
   -- "An accepted read gives a valid machine", and "sets pages that the machine does not own to zero": with `read-typed`, a start
   pub read-start : (s : List ℕ) (n : ℕ) → readOf s n .answer ≡ Accepted → ReadGives (readOf s n .machine) (readOf s n .memory) n
   -- the page of a block number is one that the machine owns

@@ -3,16 +3,17 @@ use Prim.Native.Nat.{ℕ}
 use mathlib.Core.List.{List}
 use Rattle.spectrum.specs.declared.Machine.{Machine}
 use Rattle.numbers.specs.declared.Refusal.the-variants.{FileShort}
+use Rattle.numbers.specs.Faults.{unplaced}
 use Rattle.z80read.specs.Read.{ReadResult, refusedRead, readOf}
 use Rattle.z80write.specs.Written.{WriteResult, writtenOf}
 
 -- "a reader that refuses everything"
 unfoldable pub refusesFiles : List ℕ → ℕ → ReadResult
-refusesFiles s n = refusedRead FileShort n
+refusesFiles s n = refusedRead (unplaced FileShort) n
 
 -- ".. or gives one fixed machine": right in all but the machine
 unfoldable pub fixedMachine : Machine → List ℕ → ℕ → ReadResult
-fixedMachine fixed s n = record { answer = readOf s n .answer; machine = fixed; memory = readOf s n .memory }
+fixedMachine fixed s n = record { answer = readOf s n .answer; place = readOf s n .place; machine = fixed; memory = readOf s n .memory }
 
 -- "a writer with an invented length": right in all but the length
 unfoldable pub inventsLength : Machine → List ℕ → ℕ → WriteResult
