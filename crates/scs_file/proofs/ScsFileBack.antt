@@ -10,7 +10,7 @@ use borrow.Author.Tests.{le-ltb, ne-eqb}
 use Rattle.slices.specs.Bytes.{at}
 use Rattle.pages.specs.declared.Model.{Model}
 use Rattle.pages.specs.declared.Model.the-variants.{K48, K128}
-use Rattle.numbers.specs.declared.Answer.the-variants.{Accepted}
+use Rattle.z80read.specs.Read.{acceptedRead}
 use Rattle.spectrum.specs.declared.Machine.{Machine}
 use Rattle.spectrum.specs.Valid.{Typed, validOf}
 use Rattle.spectrum.proofs.Validity.{valid-says}
@@ -121,16 +121,16 @@ module _ (m : Machine) (area : List ℕ) (t : Typed m) (l : length area ≡ 1310
         let q : m .switches .im % 4 ≡ 3 = sym (ap scsMode whole-cpu ∙ scs-mode-is) ∙ e in
         omega (arith, q, valid-says m (t .sound) v .im)
 
-    accepted-back : scsLoaded (m .model) (scsCpu m) (scsPorts m) memory 131072 ≡ record { answer = Accepted; machine = scsKeeps m; memory = scsMemory (m .model) memory }
+    accepted-back : scsLoaded (m .model) (scsCpu m) (scsPorts m) memory 131072 ≡ acceptedRead (scsKeeps m) (scsMemory (m .model) memory)
     accepted-back =
         rw (ne-eqb (scsMode (zeroFilled 34 (scsCpu m))) 3 mode-good)
-        (λ i. record { answer = Accepted; machine = ((λ j. scsMachine (m .model) (whole-cpu j) (whole-ports j)) ∙ machine-kept m t v) i; memory = scsMemory (m .model) memory })
+        (λ i. acceptedRead (((λ j. scsMachine (m .model) (whole-cpu j) (whole-ports j)) ∙ machine-kept m t v) i) (scsMemory (m .model) memory))
 
     head-file : scsHeadOf file ≡ Spectrum (m .model)
     unfolding scsFileOf
     head-file = scs-head-back (m .model) _
 
-    read-back : scsReadOf file 131072 ≡ record { answer = Accepted; machine = scsKeeps m; memory = scsMemory (m .model) memory }
+    read-back : scsReadOf file 131072 ≡ acceptedRead (scsKeeps m) (scsMemory (m .model) memory)
     unfolding scsReadOf
     read-back =
         ap (λ (x : ScsHead). afterScsHead x file 131072) head-file
@@ -138,9 +138,9 @@ module _ (m : Machine) (area : List ℕ) (t : Typed m) (l : length area ≡ 1310
         ∙ loaded-back ∙ accepted-back
 
 pub scs-file-back : (m : Machine) (area : List ℕ) → Typed m → validOf m ≡ true → Clean (m .model) area
-    → scsReadOf (scsFileOf m area) 131072 ≡ record { answer = Accepted; machine = scsKeeps m; memory = area }
+    → scsReadOf (scsFileOf m area) 131072 ≡ acceptedRead (scsKeeps m) area
 scs-file-back m area t v c =
-    read-back m area t (c .long) v ∙ ap (λ (x : List ℕ). record { answer = Accepted; machine = scsKeeps m; memory = x }) (memory-back (m .model) area c)
+    read-back m area t (c .long) v ∙ ap (λ (x : List ℕ). acceptedRead (scsKeeps m) x) (memory-back (m .model) area c)
 
 -- the file is what an output with room for it begins with
 pub scs-out : (m : Machine) (area : List ℕ) (n : ℕ) → validOf m ≡ true → length area ≡ 131072 → length (scsFileOf m area) ≤ n

@@ -13,7 +13,7 @@ use Rattle.pages.specs.declared.Model.{Model}
 use Rattle.numbers.specs.declared.Answer.the-variants.{Accepted}
 use Rattle.numbers.proofs.Numbers.{refused-not}
 use Rattle.spectrum.specs.Valid.{Typed}
-use Rattle.z80read.specs.Read.{ReadResult}
+use Rattle.z80read.specs.Read.{ReadResult, acceptedRead}
 use Rattle.z80file.specs.Clean.{Clean, ReadGives}
 use Rattle.scs_blocks.specs.declared.ScsPart.{ScsPart}
 use Rattle.scs_blocks.specs.declared.ScsPart.the-variants.{Absent, Stands}
@@ -42,14 +42,14 @@ record ScsTaken (s : List ℕ) (n : ℕ) (o : ReadResult) : Type 0 where
   memory : ScsPart
   whole : n ≡ 131072
   mode : scsMode (zeroFilled 34 (dataOf s cpu)) ≡ 3 → ⊥
-  is : o ≡ record { answer = Accepted; machine = scsMachine model (zeroFilled 34 (dataOf s cpu)) (zeroFilled 19 (dataOf s ports)); memory = scsMemory model (dataOf s memory) }
+  is : o ≡ acceptedRead (scsMachine model (zeroFilled 34 (dataOf s cpu)) (zeroFilled 19 (dataOf s ports))) (scsMemory model (dataOf s memory))
 
 module _ (s : List ℕ) (n : ℕ) where
   abbrev IfTaken : ReadResult → Type 0
   IfTaken o = o .answer ≡ Accepted → ScsTaken s n o
 
   found-taken : (model : Model) (f : ScsFound) → n ≡ 131072 → IfTaken (afterFound f model s n)
-  found-taken model (Bad why) w a = absurd (refused-not why a)
+  found-taken model (Bad fault) w a = absurd (refused-not (fault .why) a)
   found-taken model (Blocks seen) w a =
       either IfTaken (threeSeen seen) _ _
       (λ e. either IfTaken (eqb (scsMode (zeroFilled 34 (dataOf s (seen .cpu)))) 3) _ _ (λ q a. absurd (refused-not _ a))
@@ -115,4 +115,4 @@ scs-again s n h a =
     let o = scsReadOf s n in
     let g = scs-start s n a in
     scs-file-back (o .machine) (o .memory) (scs-read-typed s n h a) (g .valid) (g .clean)
-    ∙ (λ i. record { answer = sym a i; machine = scs-kept-all s n a i; memory = o .memory })
+    ∙ (λ i. record { answer = sym a i; place = sym (ap (λ (x : ReadResult). x .place) (scs-taken s n a .is)) i; machine = scs-kept-all s n a i; memory = o .memory })

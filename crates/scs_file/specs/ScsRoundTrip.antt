@@ -5,9 +5,8 @@ use mathlib.Core.Bool.{true}
 use mathlib.Core.List.{List}
 use lib.ListN.{take}
 use Rattle.spectrum.specs.declared.Machine.{Machine}
-use Rattle.numbers.specs.declared.Answer.the-variants.{Accepted}
 use Rattle.spectrum.specs.Valid.{Typed, validOf}
-use Rattle.z80read.specs.Read.{ReadResult}
+use Rattle.z80read.specs.Read.{ReadResult, acceptedRead}
 use Rattle.z80write.specs.Written.{WriteResult}
 use Rattle.z80file.specs.Clean.{Clean}
 use Rattle.scs_file.specs.ScsKeeps.{scsKeeps}
@@ -17,4 +16,4 @@ use Rattle.scs_file.specs.ScsKeeps.{scsKeeps}
 abbrev pub ScsBackOf : (List ℕ → ℕ → ReadResult) → (Machine → List ℕ → ℕ → WriteResult) → Type 0
 ScsBackOf read write =
     (m : Machine) (area : List ℕ) → Typed m → validOf m ≡ true → Clean (m .model) area
-    → read (take (write m area 131160 .size) (write m area 131160 .out)) 131072 ≡ record { answer = Accepted; machine = scsKeeps m; memory = area }
+    → read (take (write m area 131160 .size) (write m area 131160 .out)) 131072 ≡ acceptedRead (scsKeeps m) area

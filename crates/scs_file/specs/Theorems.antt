@@ -12,6 +12,7 @@ use Rattle.z80file.specs.WrongFiles.{refusesFiles}
 use Rattle.pages.specs.declared.Model.{Model}
 use Rattle.scs_pieces.specs.ScsPieces.{scsCpu, scsPorts}
 use Rattle.scs_machine.specs.ScsMachine.{scsMachine}
+use Rattle.z80read.specs.Read.{acceptedRead}
 use Rattle.scs_read.specs.ScsReads.{scsReadOf}
 use Rattle.scs_write.specs.ScsWritten.{scsFileOf, scsWrittenOf}
 use Rattle.scs_file.specs.ScsKeeps.{scsKeeps}
@@ -23,7 +24,7 @@ pub record Theorems : Type 0 where
   pub scs-back : ScsBackOf scsReadOf scsWrittenOf
   -- the same of the file by itself, whatever output it stands in
   pub scs-file-back : (m : Machine) (area : List ℕ) → Typed m → validOf m ≡ true → Clean (m .model) area
-      → scsReadOf (scsFileOf m area) 131072 ≡ record { answer = Accepted; machine = scsKeeps m; memory = area }
+      → scsReadOf (scsFileOf m area) 131072 ≡ acceptedRead (scsKeeps m) area
   -- what reading accepts is valid, and its unused pages are zero; it is as the types of the code say: a start
   pub scs-start : (s : List ℕ) (n : ℕ) → scsReadOf s n .answer ≡ Accepted → ReadGives (scsReadOf s n .machine) (scsReadOf s n .memory) n
   pub scs-read-typed : (s : List ℕ) (n : ℕ) → ((i : ℕ) → getD s i 0 < 256) → scsReadOf s n .answer ≡ Accepted → Typed (scsReadOf s n .machine)

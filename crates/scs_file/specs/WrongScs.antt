@@ -9,7 +9,7 @@ use Rattle.scs_write.specs.ScsWritten.{scsWrittenOf}
 
 -- "a reader that .. gives one fixed machine": right in all but the machine
 unfoldable pub scsFixedMachine : Machine → List ℕ → ℕ → ReadResult
-scsFixedMachine fixed s n = record { answer = scsReadOf s n .answer; machine = fixed; memory = scsReadOf s n .memory }
+scsFixedMachine fixed s n = record { answer = scsReadOf s n .answer; place = scsReadOf s n .place; machine = fixed; memory = scsReadOf s n .memory }
 
 -- "a writer with an invented length": right in all but the length
 unfoldable pub scsInventsLength : Machine → List ℕ → ℕ → WriteResult
