@@ -5,16 +5,19 @@ use mathlib.Core.List.{List}
 use Rattle.file_bytes.specs.Files.{ReadBytes, WriteBytes, ReadsBytes, WritesBytes}
 use Rattle.files_twice.specs.FilesTwice.{ReadsTwo, WritesTwo}
 
-pub reads-two : (read : ℕ → ℕ → ReadBytes) (n k n′ k′ r r′ : ℕ) (area head area′ head′ : List ℕ) → ReadsBytes (read n k) r area head
-    → ReadsBytes (read n′ k′) r′ area′ head′ → ReadsTwo read n k n′ k′ (record { one = r; other = r′ }) area head area′ head′
-reads-two read n k n′ k′ r r′ area head area′ head′ p q =
+pub reads-two : (read : ℕ → ℕ → ReadBytes) (n k n′ k′ r r′ place place′ : ℕ) (area head area′ head′ : List ℕ) → ReadsBytes (read n k) r place area head
+    → ReadsBytes (read n′ k′) r′ place′ area′ head′ → ReadsTwo read n k n′ k′ (record { one = r; other = r′ }) place area head place′ area′ head′
+reads-two read n k n′ k′ r r′ place place′ area head area′ head′ p q =
     record {
       first = p;
       second = q;
       alike = λ e f.
           let s : read n k ≡ read n′ k′ = λ i. read (e i) (f i) in (
             p .answer ∙ ap (λ (x : ReadBytes). x .answer) s ∙ sym (q .answer),
-            (p .area ∙ ap (λ (x : ReadBytes). x .area) s ∙ sym (q .area), p .header ∙ ap (λ (x : ReadBytes). x .header) s ∙ sym (q .header)),
+            (
+              p .place ∙ ap (λ (x : ReadBytes). x .place) s ∙ sym (q .place),
+              (p .area ∙ ap (λ (x : ReadBytes). x .area) s ∙ sym (q .area), p .header ∙ ap (λ (x : ReadBytes). x .header) s ∙ sym (q .header)),
+            ),
           );
     }
 

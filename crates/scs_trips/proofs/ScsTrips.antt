@@ -53,7 +53,7 @@ scs-size-fits head area n w size out p =
 -- what is written of a valid machine's header and a clean area reads as what SCS keeps of the machine, and the area
 module _ (m : Machine) (head area : List ℕ) (n w size : ℕ) (out : List ℕ) (f : HeaderFor m head) (p : WritesBytes (scsWriteOfBytes head area n) w size out) where
   scs-trip : Clean (m .model) area → 88 + memorySize (m .model) ≤ n
-      → (w ≡ 0) × (scsReadOfBytes (take size out) 131072 86 ≡ record { answer = 0; area = area; header = headerOf (scsKeeps m) })
+      → (w ≡ 0) × (scsReadOfBytes (take size out) 131072 86 ≡ record { answer = 0; place = 0; area = area; header = headerOf (scsKeeps m) })
   scs-trip c h =
       let file = scsFileOf m area in
       let o : scsWriteOfBytes head area n ≡ writtenInBytes (acceptedWrite file n)
@@ -81,30 +81,31 @@ module _ (m : Machine) (head area : List ℕ) (n w size : ℕ) (out : List ℕ) 
       let o : scsWriteOfBytes head area n ≡ writtenInBytes (scsWrittenOf m area n) = scs-write-as m head area n (decoded-back m head f) in
       p .size ∙ ap (λ (x : WriteBytes). x .size) o ∙ sized (number-0 _ (sym (ap (λ (x : WriteBytes). x .answer) o) ∙ sym (p .answer) ∙ e))
 
-pub scs-writes-then-reads : (head area : List ℕ) (n k l w r size : ℕ) (out back-area back-head : List ℕ) → WritesBytes (scsWriteOfBytes head area n) w size out
-    → ReadsBytes (scsReadOfBytes (take (size - 0) (drop 0 out)) k l) r back-area back-head
-    → ScsWritesThenReads head area n k l (record { written = w; read = r }) out size back-area back-head
-scs-writes-then-reads head area n k l w r size out back-area back-head p g =
+pub scs-writes-then-reads : (head area : List ℕ) (n k l w r size place : ℕ) (out back-area back-head : List ℕ) → WritesBytes (scsWriteOfBytes head area n) w size out
+    → ReadsBytes (scsReadOfBytes (take (size - 0) (drop 0 out)) k l) r place back-area back-head
+    → ScsWritesThenReads head area n k l (record { written = w; read = r }) out size place back-area back-head
+scs-writes-then-reads head area n k l w r size place out back-area back-head p g =
     let z : size - 0 ≡ size = omega arith in
-    let q : ReadsBytes (scsReadOfBytes (take size out) k l) r back-area back-head = subst (λ (i : ℕ). ReadsBytes (scsReadOfBytes (take i out) k l) r back-area back-head) z g in
+    let q : ReadsBytes (scsReadOfBytes (take size out) k l) r place back-area back-head = subst (λ (i : ℕ). ReadsBytes (scsReadOfBytes (take i out) k l) r place back-area back-head) z g in
     record {
       first = p;
       then-read = q;
       back = λ m f c h ek el.
           let t = scs-trip m head area n w size out f p c h in
-          let e : scsReadOfBytes (take size out) k l ≡ record { answer = 0; area = area; header = headerOf (scsKeeps m) } = (λ i. scsReadOfBytes (take size out) (ek i) (el i)) ∙ t .1 in
+          let e : scsReadOfBytes (take size out) k l ≡ record { answer = 0; place = 0; area = area; header = headerOf (scsKeeps m) } = (λ i. scsReadOfBytes (take size out) (ek i) (el i)) ∙ t .1 in
           record {
             written = t .0;
             read = q .answer ∙ ap (λ (x : ReadBytes). x .answer) e;
+            nowhere = q .place ∙ ap (λ (x : ReadBytes). x .place) e;
             area-same = q .area ∙ ap (λ (x : ReadBytes). x .area) e;
             head-kept = q .header ∙ ap (λ (x : ReadBytes). x .header) e;
           };
       long = λ m f. scs-long m head area n w size out f p;
     }
 
-pub scs-reads-then-writes : (file : List ℕ) (n k l r w size : ℕ) (area head out : List ℕ) → ((i : ℕ) → getD file i 0 < 256) → ReadsBytes (scsReadOfBytes file n k) r area head
-    → WritesBytes (scsWriteOfBytes head area l) w size out → ScsReadsThenWrites file n k l (record { written = w; read = r }) area head out size
-scs-reads-then-writes file n k l r w size area head out bytes p g =
+pub scs-reads-then-writes : (file : List ℕ) (n k l r w size place : ℕ) (area head out : List ℕ) → ((i : ℕ) → getD file i 0 < 256) → ReadsBytes (scsReadOfBytes file n k) r place area head
+    → WritesBytes (scsWriteOfBytes head area l) w size out → ScsReadsThenWrites file n k l (record { written = w; read = r }) place area head out size
+scs-reads-then-writes file n k l r w size place area head out bytes p g =
     record {
       first = p;
       then-written = g;
@@ -118,6 +119,6 @@ scs-reads-then-writes file n k l r w size area head out bytes p g =
           let t = scs-trip (o .machine) head area l w size out f g (subst (Clean (o .machine .model)) (sym ea) (s .clean)) (omega (arith, size-small (o .machine .model) (memorySize (o .machine .model)) refl)) in
           record {
             written = t .0;
-            again = t .1 ∙ ap (λ (x : List ℕ). record { answer = 0; area = area; header = x }) (ap headerOf (scs-kept-all file n (q .0)) ∙ sym eh);
+            again = t .1 ∙ ap (λ (x : List ℕ). record { answer = 0; place = 0; area = area; header = x }) (ap headerOf (scs-kept-all file n (q .0)) ∙ sym eh);
           };
     }

@@ -27,11 +27,12 @@ record Gave (b : ReadBytes) (o : ReadResult) : Type 0 where
   typed : Typed (o .machine)
   long : length (o .memory) ≡ 131072
 
-read-serves : (b : ReadBytes) (o : ReadResult) (head area log encoded : List ℕ) (room r c : ℕ) (x : Buffers) (numbers : List ℕ) → (b .answer ≡ 0 → Gave b o)
-    → ReadsBytes b r area head → Serves head area log encoded room c x numbers → ServesFile b (startOf o) log encoded room r x numbers
-read-serves b o head area log encoded room r c x numbers gave p g =
+read-serves : (b : ReadBytes) (o : ReadResult) (head area log encoded : List ℕ) (room r place c : ℕ) (x : Buffers) (numbers : List ℕ) → (b .answer ≡ 0 → Gave b o)
+    → ReadsBytes b r place area head → Serves head area log encoded room c x numbers → ServesFile b (startOf o) log encoded room r place x numbers
+read-serves b o head area log encoded room r place c x numbers gave p g =
     record {
       answer = p .answer;
+      place-told = p .place;
       ran = subst (λ (y : Buffers). RanBytes encoded room y x numbers) (λ j. startedBuffers (p .header j) (p .area j) (length log)) (g .ran);
       claim = λ e.
           let q = gave (sym (p .answer) ∙ e) in
@@ -41,21 +42,21 @@ read-serves b o head area log encoded room r c x numbers gave p g =
           (g .claim (o .machine) f (ap length ea ∙ q .long));
     }
 
-module _ (file : List ℕ) (n k : ℕ) (head area log encoded : List ℕ) (room r c : ℕ) (x : Buffers) (numbers : List ℕ) (fb : (i : ℕ) → getD file i 0 < 256) where
-  pub file-serves : ReadsBytes (readOfBytes file n k) r area head → Serves head area log encoded room c x numbers
-      → ServesFile (readOfBytes file n k) (startOf (readOf file n)) log encoded room r x numbers
+module _ (file : List ℕ) (n k : ℕ) (head area log encoded : List ℕ) (room r place c : ℕ) (x : Buffers) (numbers : List ℕ) (fb : (i : ℕ) → getD file i 0 < 256) where
+  pub file-serves : ReadsBytes (readOfBytes file n k) r place area head → Serves head area log encoded room c x numbers
+      → ServesFile (readOfBytes file n k) (startOf (readOf file n)) log encoded room r place x numbers
   file-serves p g =
-      read-serves (readOfBytes file n k) (readOf file n) head area log encoded room r c x numbers
+      read-serves (readOfBytes file n k) (readOf file n) head area log encoded room r place c x numbers
       (λ e.
       let q = read-0 file n k e in
       let s = read-start file n (q .0) in
       record { same = q .1; valid = s .valid; typed = read-typed file n fb (q .0); long = s .clean .long })
       p g
 
-  pub scs-serves : ReadsBytes (scsReadOfBytes file n k) r area head → Serves head area log encoded room c x numbers
-      → ServesFile (scsReadOfBytes file n k) (startOf (scsReadOf file n)) log encoded room r x numbers
+  pub scs-serves : ReadsBytes (scsReadOfBytes file n k) r place area head → Serves head area log encoded room c x numbers
+      → ServesFile (scsReadOfBytes file n k) (startOf (scsReadOf file n)) log encoded room r place x numbers
   scs-serves p g =
-      read-serves (scsReadOfBytes file n k) (scsReadOf file n) head area log encoded room r c x numbers
+      read-serves (scsReadOfBytes file n k) (scsReadOf file n) head area log encoded room r place c x numbers
       (λ e.
       let q = scs-read-0 file n k e in
       let s = scs-start file n (q .0) in

@@ -14,15 +14,16 @@ pub fn serve_file(
     file: &[u8],
     head: &mut [u8],
     area: &mut [u8],
+    offset: &mut u64,
     log: &mut [u8],
     standing: &mut u64,
     total: &mut u64,
     calls: &[u8],
     numbers: &mut [u8],
 ) -> u32
-    ensures { λ r. ⌜ ServesFile (readOfBytes (now (file .entry)) (length (now (area .entry))) (length (now (head .entry)))) (startOf (readOf (now (file .entry)) (length (now (area .entry))))) (now (log .entry)) (now (calls .entry)) (length (now (numbers .entry))) r (buffersOut head area log standing total) (now (numbers .exit)) ⌝ }
+    ensures { λ r. ⌜ ServesFile (readOfBytes (now (file .entry)) (length (now (area .entry))) (length (now (head .entry)))) (startOf (readOf (now (file .entry)) (length (now (area .entry))))) (now (log .entry)) (now (calls .entry)) (length (now (numbers .entry))) r (now (offset .exit)) (buffersOut head area log standing total) (now (numbers .exit)) ⌝ }
 {
-    let answer = snapshot::snap_z80_read(file, area, head);
+    let answer = snapshot::snap_z80_read(file, area, head, offset);
     server::serve(head, area, log, standing, total, calls, numbers);
     answer
 }
@@ -32,15 +33,16 @@ pub fn serve_scs(
     file: &[u8],
     head: &mut [u8],
     area: &mut [u8],
+    offset: &mut u64,
     log: &mut [u8],
     standing: &mut u64,
     total: &mut u64,
     calls: &[u8],
     said: &mut [u8],
 ) -> u32
-    ensures { λ r. ⌜ ServesFile (scsReadOfBytes (now (file .entry)) (length (now (area .entry))) (length (now (head .entry)))) (startOf (scsReadOf (now (file .entry)) (length (now (area .entry))))) (now (log .entry)) (now (calls .entry)) (length (now (said .entry))) r (buffersOut head area log standing total) (now (said .exit)) ⌝ }
+    ensures { λ r. ⌜ ServesFile (scsReadOfBytes (now (file .entry)) (length (now (area .entry))) (length (now (head .entry)))) (startOf (scsReadOf (now (file .entry)) (length (now (area .entry))))) (now (log .entry)) (now (calls .entry)) (length (now (said .entry))) r (now (offset .exit)) (buffersOut head area log standing total) (now (said .exit)) ⌝ }
 {
-    let read = snapshot::snap_scs_read(file, area, head);
+    let read = snapshot::snap_scs_read(file, area, head, offset);
     server::serve(head, area, log, standing, total, calls, said);
     read
 }

@@ -16,9 +16,9 @@ use Rattle.file_bytes.proofs.AcceptedBytes.{read-0}
 use Rattle.server_trips.proofs.Trips.{trip}
 use Rattle.server_rewrites.specs.Rewrites.{ReadsThenWrites}
 
-pub reads-then-writes : (file : List ℕ) (n k l r w size : ℕ) (area head out : List ℕ) → ((i : ℕ) → getD file i 0 < 256) → ReadsBytes (readOfBytes file n k) r area head
-    → WritesBytes (writeOfBytes head area l) w size out → ReadsThenWrites file n k l (record { written = w; read = r }) area head out size
-reads-then-writes file n k l r w size area head out bytes p g =
+pub reads-then-writes : (file : List ℕ) (n k l r w size place : ℕ) (area head out : List ℕ) → ((i : ℕ) → getD file i 0 < 256) → ReadsBytes (readOfBytes file n k) r place area head
+    → WritesBytes (writeOfBytes head area l) w size out → ReadsThenWrites file n k l (record { written = w; read = r }) place area head out size
+reads-then-writes file n k l r w size place area head out bytes p g =
     record {
       first = p;
       then-written = g;

@@ -8,12 +8,13 @@ pub fn read_then_write(
     file: &[u8],
     area: &mut [u8],
     head: &mut [u8],
+    offset: &mut u64,
     out: &mut [u8],
     size: &mut u64,
 ) -> Trip
-    ensures { λ r. ⌜ ReadsThenWrites (now (file .entry)) (length (now (area .entry))) (length (now (head .entry))) (length (now (out .entry))) r (now (area .exit)) (now (head .exit)) (now (out .exit)) (now (size .exit)) ⌝ }
+    ensures { λ r. ⌜ ReadsThenWrites (now (file .entry)) (length (now (area .entry))) (length (now (head .entry))) (length (now (out .entry))) r (now (offset .exit)) (now (area .exit)) (now (head .exit)) (now (out .exit)) (now (size .exit)) ⌝ }
 {
-    let read = snapshot::snap_z80_read(file, area, head);
+    let read = snapshot::snap_z80_read(file, area, head, offset);
     let written = snapshot::snap_z80_write(head, area, out, size);
     Trip {
         written: written,

@@ -41,7 +41,7 @@ size-fits head area n w size out p = subst (λ (k : ℕ). k ≤ n) (sym (p .size
 
 -- what is written of a valid machine's header and a clean area reads as both
 pub trip : (m : Machine) (head area : List ℕ) (n w size : ℕ) (out : List ℕ) → HeaderFor m head → Clean (m .model) area → length (fileOf m area) ≤ n → WritesBytes (writeOfBytes head area n) w size out
-    → (w ≡ 0) × (readOfBytes (take size out) 131072 86 ≡ record { answer = 0; area = area; header = head })
+    → (w ≡ 0) × (readOfBytes (take size out) 131072 86 ≡ record { answer = 0; place = 0; area = area; header = head })
 trip m head area n w size out f c h p =
     let file = fileOf m area in
     let o : writeOfBytes head area n ≡ writtenInBytes (acceptedWrite file n)
@@ -51,24 +51,25 @@ trip m head area n w size out f c h p =
     = (λ i. take (p .size i) (p .out i)) ∙ ap (λ (x : WriteBytes). take (x .size) (x .out)) o ∙ take-at file (replicate (n - length file) 0) (length file) refl in (
       p .answer ∙ ap (λ (x : WriteBytes). x .answer) o,
       ap (λ (l : List ℕ). readOfBytes l 131072 86) wrote ∙ read-whole file ∙ ap readInBytes (file-back m area (f .typed) (f .valid) c)
-          ∙ ap (λ (x : List ℕ). record { answer = 0; area = area; header = x }) (sym (f .is)),
+          ∙ ap (λ (x : List ℕ). record { answer = 0; place = 0; area = area; header = x }) (sym (f .is)),
     )
 
-pub writes-then-reads : (head area : List ℕ) (n k l w r size : ℕ) (out back-area back-head : List ℕ) → WritesBytes (writeOfBytes head area n) w size out
-    → ReadsBytes (readOfBytes (take (size - 0) (drop 0 out)) k l) r back-area back-head
-    → WritesThenReads head area n k l (record { written = w; read = r }) out size back-area back-head
-writes-then-reads head area n k l w r size out back-area back-head p g =
+pub writes-then-reads : (head area : List ℕ) (n k l w r size place : ℕ) (out back-area back-head : List ℕ) → WritesBytes (writeOfBytes head area n) w size out
+    → ReadsBytes (readOfBytes (take (size - 0) (drop 0 out)) k l) r place back-area back-head
+    → WritesThenReads head area n k l (record { written = w; read = r }) out size place back-area back-head
+writes-then-reads head area n k l w r size place out back-area back-head p g =
     let z : size - 0 ≡ size = omega arith in
-    let q : ReadsBytes (readOfBytes (take size out) k l) r back-area back-head = subst (λ (i : ℕ). ReadsBytes (readOfBytes (take i out) k l) r back-area back-head) z g in
+    let q : ReadsBytes (readOfBytes (take size out) k l) r place back-area back-head = subst (λ (i : ℕ). ReadsBytes (readOfBytes (take i out) k l) r place back-area back-head) z g in
     record {
       first = p;
       then-read = q;
       back = λ m f c h ek el.
           let t = trip m head area n w size out f c h p in
-          let e : readOfBytes (take size out) k l ≡ record { answer = 0; area = area; header = head } = (λ i. readOfBytes (take size out) (ek i) (el i)) ∙ t .1 in
+          let e : readOfBytes (take size out) k l ≡ record { answer = 0; place = 0; area = area; header = head } = (λ i. readOfBytes (take size out) (ek i) (el i)) ∙ t .1 in
           record {
             written = t .0;
             read = q .answer ∙ ap (λ (x : ReadBytes). x .answer) e;
+            nowhere = q .place ∙ ap (λ (x : ReadBytes). x .place) e;
             area-same = q .area ∙ ap (λ (x : ReadBytes). x .area) e;
             head-same = q .header ∙ ap (λ (x : ReadBytes). x .header) e;
           };

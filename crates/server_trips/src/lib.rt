@@ -8,7 +8,7 @@ pub struct Trip {
     pub read: u32,
 }
 
-// A header and its area written, and the file read back into another area and header.
+// A header and its area written, and the file read back into another area and header, with its offset.
 pub fn write_then_read(
     head: &[u8],
     area: &[u8],
@@ -16,12 +16,13 @@ pub fn write_then_read(
     size: &mut u64,
     area2: &mut [u8],
     head2: &mut [u8],
+    offset: &mut u64,
 ) -> Trip
-    ensures { λ r. ⌜ WritesThenReads (now (head .entry)) (now (area .entry)) (length (now (out .entry))) (length (now (area2 .entry))) (length (now (head2 .entry))) r (now (out .exit)) (now (size .exit)) (now (area2 .exit)) (now (head2 .exit)) ⌝ }
+    ensures { λ r. ⌜ WritesThenReads (now (head .entry)) (now (area .entry)) (length (now (out .entry))) (length (now (area2 .entry))) (length (now (head2 .entry))) r (now (out .exit)) (now (size .exit)) (now (offset .exit)) (now (area2 .exit)) (now (head2 .exit)) ⌝ }
 {
     let wrote = snapshot::snap_z80_write(head, area, out, size);
     let n = *size as usize;
-    let back = snapshot::snap_z80_read(&out[0..n], area2, head2);
+    let back = snapshot::snap_z80_read(&out[0..n], area2, head2, offset);
     Trip {
         written: wrote,
         read: back,

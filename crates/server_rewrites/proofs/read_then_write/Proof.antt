@@ -21,7 +21,7 @@ same-length-3 c = search needs
 
 returns : tie.Need-returns
 returns c =
-    reads-then-writes _ _ _ _ _ _ _ _ _ _ (λ j. omega (arith, c .before .before .before .before .before .before .before .before .before .before .before .before .before .before .before .before .before .shared-slice-known .given j))
+    reads-then-writes _ _ _ _ _ _ _ _ _ _ _ (λ j. omega (arith, c .before .before .before .before .before .before .before .before .before .before .before .before .before .before .before .before .before .before .shared-slice-known .given j))
     (c .before .before .before .before .before .before .before .before .before .before .before .snap-z80-read .ensures)
     (c .before .before .snap-z80-write .ensures)
 
