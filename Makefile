@@ -5,7 +5,9 @@ SECONDS ?= 60
 CFLAGS ?= -O2 -g
 ALL_CFLAGS = -std=c99 -Wall -Wextra -Wpedantic -Werror -Iinclude -DSNAPSHOT_VERSION='"$(VERSION)"' $(CPPFLAGS) $(CFLAGS)
 LIB = target/staticlib/libsnapshot.a
-SONAME = libsnapshot.so.$(firstword $(subst ., ,$(VERSION)))
+# The major number, and while that is 0 the minor one too: it may then change the parameters of a function.
+NUMBERS = $(subst ., ,$(VERSION))
+SONAME = libsnapshot.so.$(firstword $(NUMBERS))$(if $(filter 0,$(firstword $(NUMBERS))),.$(word 2,$(NUMBERS)))
 SHARED = libsnapshot.so.$(VERSION)
 TOOL_PARTS = $(wildcard tools/*.c)
 

@@ -14,7 +14,7 @@
  * once. Two calls may share a buffer at once where both only read it.
  *
  * Rules for the caller, which no function can check:
- *   - the buffers lent to one call do not overlap;
+ *   - the buffers lent to one call, and the numbers that it writes, do not overlap;
  *   - a buffer of length 0 may have any pointer, NULL too; no other pointer is NULL.
  */
 #ifndef SNAPSHOT_H
@@ -28,8 +28,8 @@ extern "C" {
 #endif
 
 /* The version of this header, 10000 * major + 100 * minor + patch; snap_version answers the linked library's. */
-#define SNAP_VERSION 300u
-#define SNAP_VERSION_TEXT "0.3.0"
+#define SNAP_VERSION 400u
+#define SNAP_VERSION_TEXT "0.4.0"
 
 /* Sizes in bytes. RAM pages 0 to 7 lie in the area in that order. */
 #define SNAP_PAGE_SIZE 16384u
@@ -210,13 +210,30 @@ static inline const char *snap_sentence(uint32_t number)
 uint32_t snap_version(void);
 
 /*
+ * Where a file is refused: both readers write *offset, a place in the whole file counted from 0, or 0 where there is none.
+ *
+ *     number          *offset, snap_z80_read                            *offset, snap_scs_read
+ *      8              the head of the block, or the bytes left over     the same
+ *      9, 10          the head of the block
+ *     11              the first byte of the first bad code
+ *     12              the head of the block; in v1 30
+ *     14              the length of the file
+ *     42                                                                the head of the block
+ *     every other     0                                                 0
+ *
+ * A place is never 0 and at most file_len; only for 14 does no byte stand there. Bytes left over are 1 or 2 (SCS: 1 to 4) that
+ * are too few for a head. A bad code is ED ED with a count of 0 or with fewer than two bytes behind it in its data.
+ */
+
+/*
  * Reads a .Z80 file, v1, v2 or v3: header becomes the machine's, area its memory, pages that it does not own zero.
  * Refused (1 to 14; 20 for a header buffer of another length): area all zero, header the blank machine's, or zeros at
- * another length. Nothing depends on what stood in area or header before.
+ * another length. *offset is as in the table above. Nothing depends on what stood in area, header or *offset before.
  */
 uint32_t snap_z80_read(const uint8_t *file, size_t file_len,
                        uint8_t *area, size_t area_len,
-                       uint8_t *header, size_t header_len);
+                       uint8_t *header, size_t header_len,
+                       uint64_t *offset);
 
 /*
  * Writes the one v3 file of a machine and its memory; *length is its length, and out is zero past it.
@@ -234,11 +251,12 @@ uint32_t snap_z80_write(const uint8_t *header, size_t header_len,
  * machine's header and area as snap_z80_read does. What SCS does not hold is as from a v1 file: no attachment, position 0.
  * Not kept: clock numbers, other blocks, bits that do not count, a 48K's OUTs and sound, bytes past a block's due length.
  * Refused, in this order: 20 for a header buffer of another length, 1 area, 2 under 15 bytes, 40, 43, block by block 8 then
- * 42, then 41, last 5; then area and header are as after a refused snap_z80_read.
+ * 42, then 41, last 5; then area and header are as after a refused snap_z80_read. *offset is as in the table above.
  */
 uint32_t snap_scs_read(const uint8_t *file, size_t file_len,
                        uint8_t *area, size_t area_len,
-                       uint8_t *header, size_t header_len);
+                       uint8_t *header, size_t header_len,
+                       uint64_t *offset);
 
 /*
  * Writes the one SCS file of a machine and its memory, SNAP_SCS_FILE_48K or SNAP_SCS_FILE_128K bytes; all else as in
