@@ -39,12 +39,13 @@ static void print_state(const char *done)
 static size_t open_file(const char *folder, const char *name)
 {
     size_t length;
+    uint64_t offset;
     int error = load(folder, name, file, sizeof file, &length);
     if (error != 0) {
         fprintf(stderr, "%s/%s: cannot be read: %s\n", folder, name, strerror(error));
         exit(1);
     }
-    must(snap_z80_read(file, length, area, sizeof area, header, sizeof header), name);
+    must(snap_z80_read(file, length, area, sizeof area, header, sizeof header, &offset), name);
     return length;
 }
 

@@ -23,21 +23,30 @@ static const struct request {
 
 static uint8_t file[SNAP_READ_MOST + 1];
 
-/* Reads the file into the slot and finds the page in it; 0, or the number that the visitor is told. */
-static uint32_t serve(size_t file_length, uint8_t asked, struct server_slot *slot, const uint8_t **page, uint64_t *length)
+/* What the visitor is told: a page, or a number with the place in the file, 0 where there is none. */
+struct served {
+    uint32_t number;
+    uint64_t offset, length;
+    const uint8_t *page;
+};
+
+/* Reads the file into the slot and finds the page in it. */
+static struct served serve(size_t file_length, uint8_t asked, struct server_slot *slot)
 {
     static uint8_t rom[SNAP_ROM_SIZE_128K];
-    uint32_t number = snap_z80_read(file, file_length, slot->area, sizeof slot->area, slot->header, sizeof slot->header);
-    if (number != SNAP_ACCEPTED)
-        return number;
+    struct served served = {0};
+    served.number = snap_z80_read(file, file_length, slot->area, sizeof slot->area, slot->header, sizeof slot->header,
+                                  &served.offset);
+    if (served.number != SNAP_ACCEPTED)
+        return served;
     uint8_t model, attachment, in_rom;
     snap_model(slot->header, sizeof slot->header, &model, &attachment);
     size_t rom_length = model == SNAP_128K ? SNAP_ROM_SIZE_128K : SNAP_ROM_SIZE_48K;
     uint64_t start;
-    number = snap_view(slot->header, sizeof slot->header, rom, rom_length, slot->area, sizeof slot->area, asked, &in_rom,
-                       &start, length);
-    *page = (in_rom ? rom : slot->area) + start;
-    return number;
+    served.number = snap_view(slot->header, sizeof slot->header, rom, rom_length, slot->area, sizeof slot->area, asked,
+                              &in_rom, &start, &served.length);
+    served.page = (in_rom ? rom : slot->area) + start;
+    return served;
 }
 
 /* How much of the place of a page is not zero: what the last visitor could have left there. */
@@ -51,14 +60,16 @@ static unsigned left_over(const struct server_slot *slot, unsigned page)
 
 static void answer(size_t file_length, uint8_t asked, struct server_slot *slot)
 {
-    const uint8_t *page = NULL;
-    uint64_t length = 0;
-    uint32_t number = serve(file_length, asked, slot, &page, &length);
-    if (number == SNAP_ACCEPTED)
-        printf("%u bytes, from %02X %02X %02X %02X on\n", (unsigned)length, page[0], page[1], page[2], page[3]);
-    else
-        printf("refused, %u: %s; bytes left in its place: %u\n", (unsigned)number, snap_sentence(number),
-               left_over(slot, asked));
+    struct served served = serve(file_length, asked, slot);
+    const uint8_t *page = served.page;
+    if (served.number == SNAP_ACCEPTED) {
+        printf("%u bytes, from %02X %02X %02X %02X on\n", (unsigned)served.length, page[0], page[1], page[2], page[3]);
+        return;
+    }
+    printf("refused, %u", (unsigned)served.number);
+    if (served.offset != 0)
+        printf(" at byte %llu", (unsigned long long)served.offset);
+    printf(": %s; bytes left in its place: %u\n", snap_sentence(served.number), left_over(slot, asked));
 }
 
 int main(int argc, char **argv)

@@ -87,7 +87,8 @@ static void put_word(unsigned place, unsigned value)
 /* The blank machine's header is what a refused read leaves; these bytes of it are ours. */
 static void make_machine(void)
 {
-    snap_z80_read(NULL, 0, area, sizeof area, header, sizeof header);
+    uint64_t offset;
+    snap_z80_read(NULL, 0, area, sizeof area, header, sizeof header, &offset);
     put_word(SNAP_AT_SP, 0xBFF0);
     put_word(SNAP_AT_IY, 0x5C3A); /* as the ROM wants it */
     put_word(SNAP_AT_PC, CODE_ADDRESS);

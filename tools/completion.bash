@@ -17,12 +17,12 @@ _snapshot() {
                 offered="info view find screen edit write help --help --version"
             elif [[ $word == -* ]]; then
                 case ${COMP_WORDS[1]} in
-                    info) offered="--json" ;;
-                    view) offered="--rom --raw" ;;
-                    find) offered="--text --hex" ;;
-                    screen) offered="--scale --page --scr --force" ;;
-                    edit) offered="-o --format --script --log --new-log --force" ;;
-                    write) offered="-o --format --force" ;;
+                    info) offered="--json --verbose" ;;
+                    view) offered="--rom --raw --verbose" ;;
+                    find) offered="--text --hex --verbose" ;;
+                    screen) offered="--scale --page --scr --force --verbose" ;;
+                    edit) offered="-o --format --script --log --new-log --force --verbose" ;;
+                    write) offered="-o --format --force --verbose" ;;
                 esac
                 offered="$offered --help"
             fi

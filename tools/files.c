@@ -68,7 +68,7 @@ enum status open_to_look(const char *path, struct snapshot *opened)
     struct taking taken = take_snapshot(file, length, opened);
     if (taken.fault != NULL)
         return unread(name, taken.fault);
-    return is_accepted(&taken) ? ACCEPTED : refused_file(name, taken.number, taken.bytes, taken.length);
+    return is_accepted(&taken) ? ACCEPTED : refused_file(name, &taken);
 }
 
 enum status open_to_save(const char *path, enum file_kind kind, bool format_asked, struct snapshot *opened)

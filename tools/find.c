@@ -93,7 +93,7 @@ static void print_place(FILE *to, const struct machine *m, unsigned page, size_t
                                      places[at] + (unsigned)offset);
     }
     fprintf(to, "page %u offset %04X  %-16s", page, (unsigned)offset, text);
-    print_columns(to, row, (long)offset, 8);
+    print_columns(to, row, (long)offset, 8, NO_PLACE);
 }
 
 /* What was sought, and how it was taken, in a line of 80 columns. */

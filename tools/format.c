@@ -43,12 +43,15 @@ static const char *mode_name(unsigned mode)
     }
 }
 
-void hint_for(uint32_t number, const uint8_t *file, size_t length, char hint[HINT_SIZE])
+void hint_for(const struct taking *taken, char hint[HINT_SIZE])
 {
+    uint32_t number = taken->number;
+    const uint8_t *file = taken->bytes;
+    size_t length = taken->length;
     unsigned word = word_at_30(file, length);
     char mode[32] = "";
     if (is_scs(file, length)) {
-        hint_for_scs(number, file, length, hint);
+        hint_for_scs(taken, hint);
         return;
     }
     if (length > SNAP_AT_MODE)

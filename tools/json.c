@@ -116,10 +116,16 @@ void print_json(FILE *to, const char *file, const struct snapshot *opened)
     fputs("}\n", to);
 }
 
-void print_json_refusal(FILE *to, const char *file, uint32_t number, const char *hint)
+/* The length unwrapped is null in a file without a wrapper. */
+void print_json_refusal(FILE *to, const char *file, const struct taking *taken, const char *hint)
 {
-    fprintf(to, "{\"refused\": %u, \"sentence\": ", (unsigned)number);
-    print_string(to, snap_sentence(number));
+    fprintf(to, "{\"refused\": %u, \"offset\": %u, \"block\": %u, \"unwrapped\": ", (unsigned)taken->number,
+            (unsigned)taken->offset, block_with(taken->bytes, taken->length, taken->offset));
+    if (taken->unwrapped)
+        fprintf(to, "%u, \"sentence\": ", (unsigned)taken->length);
+    else
+        fputs("null, \"sentence\": ", to);
+    print_string(to, snap_sentence(taken->number));
     if (hint[0] != 0) {
         fputs(", \"hint\": ", to);
         print_string(to, hint);

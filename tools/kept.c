@@ -6,13 +6,13 @@
 void kept_in(enum file_kind kind, const struct snapshot *opened, struct snapshot *kept)
 {
     static uint8_t file[SNAP_FILE_MOST];
-    uint64_t length;
+    uint64_t length, offset;
     *kept = *opened;
     if (kind != SCS_FILE)
         return;
     /* neither is refused: the machine is valid, and there is room for it */
     snap_scs_write(opened->header, sizeof opened->header, opened->area, sizeof opened->area, file, sizeof file, &length);
-    snap_scs_read(file, (size_t)length, kept->area, sizeof kept->area, kept->header, sizeof kept->header);
+    snap_scs_read(file, (size_t)length, kept->area, sizeof kept->area, kept->header, sizeof kept->header, &offset);
 }
 
 /* The parts of a header that may be lost, each with its last byte, in info's words. */

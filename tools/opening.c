@@ -16,14 +16,15 @@ static const char *too_long(const uint8_t *bytes, size_t length, bool unwrapped)
 
 static struct taking take_plain(const uint8_t *bytes, size_t length, struct snapshot *opened)
 {
-    struct taking taken = {.fault = too_long(bytes, length, opened->unwrapped != 0), .bytes = bytes, .length = length};
+    bool unwrapped = opened->unwrapped != 0;
+    struct taking taken = {.fault = too_long(bytes, length, unwrapped), .bytes = bytes, .length = length, .unwrapped = unwrapped};
     bool scs = is_scs(bytes, length);
     opened->kind = scs ? SCS_FILE : Z80_FILE;
     opened->version = version_of(bytes, length);
     opened->says_16k = !scs && says_16k(bytes, length);
     if (taken.fault == NULL)
         taken.number = (scs ? snap_scs_read : snap_z80_read)(bytes, length, opened->area, sizeof opened->area, opened->header,
-                                                             sizeof opened->header);
+                                                             sizeof opened->header, &taken.offset);
     return taken;
 }
 

@@ -28,11 +28,21 @@ unsigned version_of(const uint8_t *file, size_t length);
 /* A 48K machine with modified hardware. */
 bool says_16k(const uint8_t *file, size_t length);
 /* What helps with a refusal, or nothing; of an SCS file too. */
-void hint_for(uint32_t number, const uint8_t *file, size_t length, char hint[HINT_SIZE]);
+struct taking;
+void hint_for(const struct taking *taken, char hint[HINT_SIZE]);
 
 /* scs.c: what the bytes of an SCS file say of themselves. */
+#define SCS_HEADER 15u
+#define SCS_BLOCK_HEAD 5u
 bool is_scs(const uint8_t *file, size_t length);
-void hint_for_scs(uint32_t number, const uint8_t *file, size_t length, char hint[HINT_SIZE]);
+void hint_for_scs(const struct taking *taken, char hint[HINT_SIZE]);
+
+/* blocks.c: the blocks of a file of either format, by their heads. */
+uint32_t scs_block_size(const uint8_t *head);
+/* Where the block after the one at a place begins; the file's length where that one is cut. */
+size_t block_after(const uint8_t *file, size_t length, size_t at);
+/* Which block, from 1 in the order of the file, a place is in; 0 in a version 1 file, and before the first. */
+unsigned block_with(const uint8_t *file, size_t length, uint64_t place);
 
 /* gzip.c: the wrapper that ASCD puts around its files. */
 /* A .Z80 file may begin so too. */
@@ -44,12 +54,15 @@ const char *unwrap(const uint8_t *file, size_t length, uint8_t *inside, size_t r
 /* An SCS file has no longest. All the blocks that its description knows, each at its longest (Memory of 512K and four external
    memories of 1M, of a Sam), come to less than this, so that every file of that emulator is read or has its refusal. */
 #define INPUT_MOST (5u << 20)
-/* A fault of length or wrapper as a sentence, or NULL; then the library's number, and the bytes that it is about. */
+/* A fault of length or wrapper as a sentence, or NULL; then the library's number and offset, and the bytes that they are about,
+   which may have been in a wrapper. */
 struct taking {
     const char *fault;
     uint32_t number;
+    uint64_t offset;
     const uint8_t *bytes;
     size_t length;
+    bool unwrapped;
 };
 bool is_accepted(const struct taking *taken);
 struct taking take_snapshot(const uint8_t *file, size_t length, struct snapshot *opened);

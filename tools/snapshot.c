@@ -124,16 +124,17 @@ static enum status run_write(const struct words *words)
 }
 
 const struct command command_table[] = {
-    {"info", {"FILE"}, {OPTION_JSON}, run_info, "the machine, and what the file says of itself"},
-    {"view", {"FILE", "PAGE|ADDRESS..ADDRESS"}, {OPTION_ROM, OPTION_RAW}, run_view,
+    {"info", {"FILE"}, {OPTION_JSON, OPTION_VERBOSE}, run_info, "the machine, and what the file says of itself"},
+    {"view", {"FILE", "PAGE|ADDRESS..ADDRESS"}, {OPTION_ROM, OPTION_RAW, OPTION_VERBOSE}, run_view,
      "a page, 0 to 7 RAM, 8 and 9 ROM, or hexadecimal addresses, as hex and text"},
-    {"find", {"FILE", "TEXT|HEX"}, {OPTION_TEXT, OPTION_HEX}, run_find,
+    {"find", {"FILE", "TEXT|HEX"}, {OPTION_TEXT, OPTION_HEX, OPTION_VERBOSE}, run_find,
      "every place of a text, or of bytes as an even number of hex digits"},
-    {"screen", {"FILE", "OUT"}, {OPTION_SCALE, OPTION_PAGE, OPTION_SCR, OPTION_FORCE}, run_screen,
+    {"screen", {"FILE", "OUT"}, {OPTION_SCALE, OPTION_PAGE, OPTION_SCR, OPTION_FORCE, OPTION_VERBOSE}, run_screen,
      "the picture on the saved screen, as a PNG"},
-    {"edit", {"FILE"}, {OPTION_OUTPUT, OPTION_FORMAT, OPTION_SCRIPT, OPTION_LOG, OPTION_NEW_LOG, OPTION_FORCE}, run_edit,
+    {"edit", {"FILE"},
+     {OPTION_OUTPUT, OPTION_FORMAT, OPTION_SCRIPT, OPTION_LOG, OPTION_NEW_LOG, OPTION_FORCE, OPTION_VERBOSE}, run_edit,
      "corrections, undo and redo, from a prompt or a script"},
-    {"write", {"FILE"}, {OPTION_OUTPUT, OPTION_FORMAT, OPTION_FORCE}, run_write,
+    {"write", {"FILE"}, {OPTION_OUTPUT, OPTION_FORMAT, OPTION_FORCE, OPTION_VERBOSE}, run_write,
      "the same machine and memory as a version 3 .Z80 file, or as SCS"},
 };
 const size_t command_count = sizeof command_table / sizeof command_table[0];
@@ -153,6 +154,7 @@ const struct option_form option_table[OPTIONS] = {
     [OPTION_LOG] = {"--log", "LOG", "the file of the correction log"},
     [OPTION_NEW_LOG] = {"--new-log", NULL, "begins with an empty log, whatever is kept"},
     [OPTION_FORCE] = {"--force", NULL, "replaces what is of another kind, in gzip, changed, or may not be written"},
+    [OPTION_VERBOSE] = {"--verbose", NULL, "where a file is refused, with the bytes around that place"},
 };
 
 static void print_usage(FILE *to)
@@ -177,10 +179,13 @@ static enum status run_command(const struct command *command, int argc, char **a
     enum status status = take_options(command, argc, argv, &words);
     if (status != ACCEPTED)
         return status;
-    if (!words.help)
-        return command->run(&words);
-    print_help(stdout, command);
-    return ACCEPTED;
+    if (words.help) {
+        print_help(stdout, command);
+        return ACCEPTED;
+    }
+    if (words.options[OPTION_VERBOSE] != NULL)
+        tell_with_bytes();
+    return command->run(&words);
 }
 
 static enum status too_many(char **argv, unsigned at)

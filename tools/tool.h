@@ -28,11 +28,20 @@ unsigned character_length(const unsigned char *s);
 /* Whether a well-formed character ends a line, moves the cursor or turns the direction of what follows. */
 bool is_control_character(const unsigned char *s, unsigned length);
 
-/* unread.c: what is said of an input that is not accepted; after tell_in_json(), as JSON on standard output. */
+/* unread.c: what is said of an input that is not accepted; after tell_in_json(), as JSON on standard output, after
+   tell_with_bytes() with the bytes around the place on standard error. */
 void tell_in_json(void);
+void tell_with_bytes(void);
 enum status unread(const char *file, const char *sentence);
 enum status unread_errno(const char *file, const char *doing);
-enum status refused_file(const char *file, uint32_t number, const uint8_t *bytes, size_t length);
+enum status refused_file(const char *file, const struct taking *taken);
+
+/* where.c: the place at which a file is refused; there may be none. */
+#define WHERE_SIZE 100u
+/* It follows the number in a line; nothing where there is no place. */
+void where_refused(const struct taking *taken, char text[WHERE_SIZE]);
+/* The place in hex, and rows of bytes around it. */
+void show_around(FILE *to, const char *file, const struct taking *taken);
 
 /* files.c */
 /* Reads a regular file of at most `most` bytes; `bytes` has room for one more. */
@@ -128,7 +137,7 @@ enum status page_bytes(const char *file, const struct snapshot *opened, unsigned
 void print_info(FILE *to, const char *file, const struct snapshot *opened);
 void print_file_info(FILE *to, const char *file, const struct snapshot *opened);
 void print_json(FILE *to, const char *file, const struct snapshot *opened);
-void print_json_refusal(FILE *to, const char *file, uint32_t number, const char *hint);
+void print_json_refusal(FILE *to, const char *file, const struct taking *taken, const char *hint);
 void print_json_error(FILE *to, const char *file, const char *sentence);
 unsigned bytes_not_zero(const struct snapshot *opened, unsigned page);
 
@@ -155,8 +164,9 @@ struct span {
     const uint8_t *bytes;
     long first, last;
 };
-/* Up to sixteen places from `start` on as hex and text; those outside the span are blank. */
-void print_columns(FILE *to, const struct span *span, long start, int columns);
+/* Up to sixteen places from `start` on as hex and text; those outside the span are blank, and one may be in brackets. */
+#define NO_PLACE (-1L)
+void print_columns(FILE *to, const struct span *span, long start, int columns, long marked);
 
 /* find.c: every place of some bytes in the pages of a machine. */
 struct sought {
@@ -244,7 +254,7 @@ enum status edit(const struct edit_words *words);
 /* options.c: the command line, by the tables in snapshot.c. */
 enum option_number {
     NO_OPTION, OPTION_JSON, OPTION_ROM, OPTION_RAW, OPTION_TEXT, OPTION_HEX, OPTION_SCALE, OPTION_PAGE, OPTION_SCR,
-    OPTION_OUTPUT, OPTION_FORMAT, OPTION_SCRIPT, OPTION_LOG, OPTION_NEW_LOG, OPTION_FORCE, OPTIONS
+    OPTION_OUTPUT, OPTION_FORMAT, OPTION_SCRIPT, OPTION_LOG, OPTION_NEW_LOG, OPTION_FORCE, OPTION_VERBOSE, OPTIONS
 };
 /* An option's value is NULL where it is not given, and not NULL where it is given and takes none. */
 struct words {

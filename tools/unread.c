@@ -4,11 +4,16 @@
 
 #include "tool.h"
 
-static bool as_json;
+static bool as_json, with_bytes;
 
 void tell_in_json(void)
 {
     as_json = true;
+}
+
+void tell_with_bytes(void)
+{
+    with_bytes = true;
 }
 
 enum status unread(const char *file, const char *sentence)
@@ -28,12 +33,18 @@ enum status unread_errno(const char *file, const char *doing)
     return unread(file, sentence);
 }
 
-enum status refused_file(const char *file, uint32_t number, const uint8_t *bytes, size_t length)
+enum status refused_file(const char *file, const struct taking *taken)
 {
-    char hint[HINT_SIZE];
-    hint_for(number, bytes, length, hint);
-    if (!as_json)
-        return refused_with_hint(file, number, hint);
-    print_json_refusal(stdout, file, number, hint);
+    char hint[HINT_SIZE], where[WHERE_SIZE];
+    hint_for(taken, hint);
+    where_refused(taken, where);
+    if (as_json)
+        print_json_refusal(stdout, file, taken, hint);
+    else
+        warn(file, hint[0] == 0 ? "refused, %u%s: %s" : "refused, %u%s: %s (%s)", (unsigned)taken->number, where,
+             snap_sentence(taken->number), hint);
+    fflush(stdout);
+    if (with_bytes)
+        show_around(stderr, file, taken);
     return REFUSED;
 }

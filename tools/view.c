@@ -5,12 +5,21 @@
 
 #define COLUMNS 16
 
-void print_columns(FILE *to, const struct span *span, long start, int columns)
+/* What stands before the byte of a column: a wider gap in the middle, the bracket before it or behind the one before. */
+static void print_gap(FILE *to, int column, bool opens, bool closes)
+{
+    if (column == COLUMNS / 2)
+        fputs(closes ? "] " : opens ? " [" : "  ", to);
+    else
+        fputs(closes ? "]" : opens ? "[" : " ", to);
+}
+
+void print_columns(FILE *to, const struct span *span, long start, int columns, long marked)
 {
     char text[COLUMNS + 1] = "";
     for (int column = 0; column < columns; column++) {
         long place = start + column;
-        fputs(column == COLUMNS / 2 ? "  " : " ", to);
+        print_gap(to, column, place == marked, column > 0 && place - 1 == marked);
         text[column] = ' ';
         if (place < span->first || place > span->last) {
             fputs("  ", to);
@@ -20,7 +29,7 @@ void print_columns(FILE *to, const struct span *span, long start, int columns)
         fprintf(to, "%02X", byte);
         text[column] = (char)(byte >= 32 && byte < 127 ? byte : '.');
     }
-    fprintf(to, "  |%s|\n", text);
+    fprintf(to, "%s |%s|\n", start + columns - 1 == marked ? "]" : " ", text);
 }
 
 /* Whole rows that repeat the one before are shown as one star; the last row is always shown. */
@@ -33,7 +42,7 @@ static void print_rows(FILE *to, const struct span *span)
         bool same = whole && memcmp(span->bytes + before, span->bytes + before + COLUMNS, COLUMNS) == 0;
         if (!same) {
             fprintf(to, "%04lX ", (unsigned long)row);
-            print_columns(to, span, row, COLUMNS);
+            print_columns(to, span, row, COLUMNS, NO_PLACE);
         } else if (!star) {
             fputs("*\n", to);
         }

@@ -52,7 +52,7 @@ no_wrappers() {
     for words in '2 00' '3 20' '3 80'; do
         patched "$work/none.gz" "$work/48.scs.gz" $words
         run_tool 1 info "$work/none.gz"
-        grep -qE '^snapshot: .*/none.gz: refused, (3|4|5|11|12|14): ' "$work/err"
+        grep -qE '^snapshot: .*/none.gz: refused, (3|4|5|(11|12|14) at byte [0-9]+): ' "$work/err"
     done
 }
 check "what begins with 1F 8B and is no gzip is taken as a .Z80 file" no_wrappers

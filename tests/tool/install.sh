@@ -16,8 +16,13 @@ C
 # use_installed PREFIX: what follows finds the library that is installed there.
 use_installed() { export PKG_CONFIG_PATH=$1/lib/pkgconfig LD_LIBRARY_PATH=$1/lib; }
 
+# The shared library's name for the dynamic linker: while the major number is 0, with the minor one.
+text=$(sed -n 's/^#define SNAP_VERSION_TEXT "\(.*\)"$/\1/p' include/snapshot.h)
+soname=libsnapshot.so.${text%.*}
+[[ $text == 0.* ]] || soname=libsnapshot.so.${text%%.*}
+
 # needs_shared PROGRAM: whether it needs the shared library when it runs.
-needs_shared() { readelf -d "$1" | grep -qF 'Shared library: [libsnapshot.so.0]'; }
+needs_shared() { readelf -d "$1" | grep -qF "Shared library: [$soname]"; }
 
 installed() {
     make install PREFIX="$work/usr" >"$work/install"
@@ -34,10 +39,10 @@ installed() {
 check "installed: a program links by pkg-config, shared and static, and the tool runs" installed
 
 exports() {
-    local shared=$work/usr/lib/libsnapshot.so version
-    version=$("$work/usr/bin/snapshot" --version)
-    [ "$(readlink "$shared") $(readlink "$shared.0")" = "libsnapshot.so.0 libsnapshot.so.${version#snapshot }" ]
-    readelf -d "$shared" | grep -qF 'soname: [libsnapshot.so.0]'
+    local shared=$work/usr/lib/libsnapshot.so
+    [ "$("$work/usr/bin/snapshot" --version)" = "snapshot $text" ]
+    [ "$(readlink "$shared") $(readlink "$work/usr/lib/$soname")" = "$soname libsnapshot.so.$text" ]
+    readelf -d "$shared" | grep -qF "soname: [$soname]"
     nm -D --defined-only "$shared" | awk '{ print $3 }' | sort >"$work/exported"
     declared | diff - "$work/exported"
 }
@@ -95,10 +100,9 @@ with_space() {
 check "a PREFIX with a space: installed, linked and removed" with_space
 
 flags() {
-    local given=(LDFLAGS=-Wl,-O1 CPPFLAGS=-DMARK) shared
+    local given=(LDFLAGS=-Wl,-O1 CPPFLAGS=-DMARK)
     make -n -W include/snapshot.h tool "${given[@]}" | grep -E -- '-DMARK .*-Wl,-O1 .* -o target/snapshot$'
-    shared=target/$(readlink "$work/usr/lib/libsnapshot.so.0")
-    make -n -W include/snapshot.map "$shared" "${given[@]}" | grep -E -- '-shared -Wl,-O1 '
+    make -n -W include/snapshot.map "target/libsnapshot.so.$text" "${given[@]}" | grep -E -- '-shared -Wl,-O1 '
 }
 check "LDFLAGS and CPPFLAGS are honoured" flags
 

@@ -82,7 +82,8 @@ int main(int argc, char **argv)
         return wrong_pixel("no file", 0, 0);
     size_t length = fread(file, 1, sizeof file, from);
     fclose(from);
-    if (snap_z80_read(file, length, area, sizeof area, header, sizeof header) != SNAP_ACCEPTED)
+    uint64_t offset = 7;
+    if (snap_z80_read(file, length, area, sizeof area, header, sizeof header, &offset) != SNAP_ACCEPTED || offset != 0)
         return wrong_pixel("a refused file", 0, 0);
     unsigned page = argc > 4 ? (unsigned)atoi(argv[4]) : header[34] >= 4 && (header[35] & 8) ? 7 : 5;
     return screen_differs(area + page * SNAP_PAGE_SIZE) || border_differs(header[12] >> 1 & 7);

@@ -67,7 +67,7 @@ static void later(void)
 /* A 48K machine of the same memory: what stands in a page that is not its own changes nothing. */
 static void pages_not_owned(void)
 {
-    uint64_t length, length_again;
+    uint64_t length, length_again, offset = 7;
     other = start;
     other.header[SNAP_AT_MODE] = SNAP_MODE_48K;
     other.header[SNAP_AT_OUT_7FFD] = 0;
@@ -76,7 +76,8 @@ static void pages_not_owned(void)
     assert(snap_z80_write(other.header, sizeof other.header, other.area, sizeof other.area, again, sizeof again,
                           &length_again) == 0);
     assert(length == length_again && memcmp(out, again, sizeof out) == 0);
-    assert(snap_z80_read(again, (size_t)length, other.area, sizeof other.area, other.header, sizeof other.header) == 0);
+    assert(snap_z80_read(again, (size_t)length, other.area, sizeof other.area, other.header, sizeof other.header, &offset) == 0
+           && offset == 0);
     for (unsigned at = SNAP_PAGE_SIZE; at < 2 * SNAP_PAGE_SIZE; at++)
         assert(other.area[at] == 0);
 }
@@ -98,7 +99,9 @@ int main(int argc, char **argv)
     assert(from != NULL);
     size_t length = fread(file, 1, sizeof file, from);
     fclose(from);
-    assert(snap_z80_read(file, length, start.area, sizeof start.area, start.header, sizeof start.header) == SNAP_ACCEPTED);
+    uint64_t offset = 7;
+    assert(snap_z80_read(file, length, start.area, sizeof start.area, start.header, sizeof start.header, &offset)
+               == SNAP_ACCEPTED && offset == 0);
     assert(snap_log_start(start.log, sizeof start.log, &start.standing, &start.total) == SNAP_ACCEPTED);
     steps_by_name();
     later();

@@ -133,19 +133,23 @@ scs_commands() {
 }
 check "view, find, screen and write of an SCS file, from standard input too, are those of the .Z80 file" scs_commands
 
-# refuses_scs NUMBER SENTENCE: standard input is a file that is refused so, with this hint or none, in gzip and by every command.
+# refuses_scs NUMBER SENTENCE [OFFSET BLOCK]: standard input is a file that is refused so, with this hint or none, in gzip and by
+# every command.
 refuses_scs() {
-    local file words
+    local file words place number
     cat >"$work/bad.scs"
     gzip -c "$work/bad.scs" >"$work/bad.scs.gz"
     for file in "$work/bad.scs" "$work/bad.scs.gz"; do
-        refuses "$1" "$file" info "$file"
-        [ "$(cat "$work/err")" = "snapshot: $file: refused, $1: $2" ]
+        place=$([ "$file" = "$work/bad.scs" ] || echo " of the unwrapped file")
+        number=$1${3:+ at byte $3$place (block $4)}
+        refuses "$number" "$file" info "$file"
+        [ "$(cat "$work/err")" = "snapshot: $file: refused, $number: $2" ]
         run_tool 1 info --json "$file"
         [ "$(jq -r '"\(.refused): \(.sentence)\(if .hint then " (\(.hint))" else "" end)"' "$work/out")" = "$1: $2" ]
+        [ "$(jq -c '[.offset, .block]' "$work/out")" = "[${3:-0},${4:-0}]" ]
     done
     for words in "view $file 5" "find $file the" "screen $file $work/never.png" "write $file -o $work/never.z80" "edit $file -o $work/never.z80"; do
-        refuses "$1" "$file" $words
+        refuses "$number" "$file" $words
     done
     [ ! -e "$work/never.png" ]
     [ ! -e "$work/never.z80" ]
@@ -161,8 +165,8 @@ scs_refusals() {
     printf '\0' | scs 1 | refuses_scs 43 "$first (the first block has number 0, the end; it is 3 for Memory)"
     { cpu_block; : | block 3; ports_block; } | scs 1 | refuses_scs 43 "$first (the first block has number 1, CPU; it is 3 for Memory)"
     { : | block 32; : | block 3; } | scs 1 | refuses_scs 43 "$first (the first block has number 32; it is 3 for Memory)"
-    { : | block 3; cpu_block; : | block 3; } | scs 1 | refuses_scs 42 "$twice (block 3, Memory, at byte 59)"
-    { : | block 3; ports_block; ports_block; cpu_block; } | scs 1 | refuses_scs 42 "$twice (block 2, Ports, at byte 44)"
+    { : | block 3; cpu_block; : | block 3; } | scs 1 | refuses_scs 42 "$twice (its number is 3, Memory)" 59 3
+    { : | block 3; ports_block; ports_block; cpu_block; } | scs 1 | refuses_scs 42 "$twice (its number is 2, Ports)" 44 3
     : | block 3 | scs 1 | refuses_scs 41 "$missing (there is neither)"
     { : | block 3; cpu_block; } | scs 2 | refuses_scs 41 "$missing (there is no Ports block)"
     # behind the end nothing is read
@@ -173,11 +177,11 @@ scs_refusals() {
 }
 scs_cut() {
     local cut='a block is cut short'
-    head -c 19 "$work/48.scs" | refuses_scs 8 "$cut (block 3, Memory, at byte 15: its head is cut)"
-    head -c 100 "$work/48.scs" | refuses_scs 8 "$cut (block 3, Memory, at byte 15, says 49152 bytes and has 80)"
+    head -c 19 "$work/48.scs" | refuses_scs 8 "$cut (its number is 3, Memory, and its head is cut)" 15 1
+    head -c 100 "$work/48.scs" | refuses_scs 8 "$cut (its number is 3, Memory; it says 49152 bytes and has 80)" 15 1
     # before it could be seen that the block comes twice
-    { : | block 3; cpu_block; : | block 1 1; } | scs 1 | refuses_scs 8 "$cut (block 1, CPU, at byte 59, says 1 bytes and has 0)"
-    { : | block 3; echo air | block 33 4294967295; } | scs 1 | refuses_scs 8 "$cut (block 33, at byte 20, says 4294967295 bytes and has 4)"
+    { : | block 3; cpu_block; : | block 1 1; } | scs 1 | refuses_scs 8 "$cut (its number is 1, CPU; it says 1 bytes and has 0)" 59 3
+    { : | block 3; echo air | block 33 4294967295; } | scs 1 | refuses_scs 8 "$cut (its number is 33; it says 4294967295 bytes and has 4)" 20 2
 }
 check "each refusal of an SCS file, by every command, with what helps" scs_refusals
-check "a block that is cut is told by its number and place" scs_cut
+check "a block that is cut is told by its place, its number and its length" scs_cut
