@@ -17,15 +17,24 @@ static void expect(const char *what, uint32_t got, uint32_t due)
 }
 
 static uint8_t area[SNAP_AREA_SIZE], header[SNAP_HEADER_SIZE], file[SNAP_FILE_MOST];
+static uint64_t place = UINT64_MAX;
+
+/* A read that is refused without a place. */
+static void expect_no_place(const char *what, uint32_t got, uint32_t due)
+{
+    expect(what, got, due);
+    expect("its place", place != 0, 0);
+    place = UINT64_MAX;
+}
 
 static void expect_scs(void)
 {
     uint64_t length = 7;
-    expect("SCS, no file", snap_scs_read(NULL, 0, area, sizeof area, header, sizeof header), 2);
-    expect("SCS, no area", snap_scs_read(file, sizeof file, NULL, 0, header, sizeof header), 1);
-    expect("SCS, no header", snap_scs_read(file, sizeof file, area, sizeof area, NULL, 0), 20);
-    expect("SCS, no buffer", snap_scs_read(NULL, 0, NULL, 0, NULL, 0), 20);
-    expect("SCS, a blank header", snap_scs_read(NULL, 0, NULL, 0, header, sizeof header), 1);
+    expect_no_place("SCS, no file", snap_scs_read(NULL, 0, area, sizeof area, header, sizeof header, &place), 2);
+    expect_no_place("SCS, no area", snap_scs_read(file, sizeof file, NULL, 0, header, sizeof header, &place), 1);
+    expect_no_place("SCS, no header", snap_scs_read(file, sizeof file, area, sizeof area, NULL, 0, &place), 20);
+    expect_no_place("SCS, no buffer", snap_scs_read(NULL, 0, NULL, 0, NULL, 0, &place), 20);
+    expect_no_place("SCS, a blank header", snap_scs_read(NULL, 0, NULL, 0, header, sizeof header, &place), 1);
     expect("write SCS, no header", snap_scs_write(NULL, 0, area, sizeof area, file, sizeof file, &length), 20);
     expect("write SCS, no area", snap_scs_write(header, sizeof header, NULL, 0, file, sizeof file, &length), 21);
     expect("write SCS, no output", snap_scs_write(header, sizeof header, area, sizeof area, NULL, 0, &length), 22);
@@ -37,10 +46,10 @@ int main(void)
     uint64_t length = 7, start = 7, standing = 7, total = 7;
     uint8_t in_rom = 7, model = 7, attachment = 7, page = 7;
     uint16_t value = 7, offset = 7;
-    expect("no file", snap_z80_read(NULL, 0, area, sizeof area, header, sizeof header), 2);
-    expect("no area", snap_z80_read(file, sizeof file, NULL, 0, header, sizeof header), 1);
-    expect("no header", snap_z80_read(file, sizeof file, area, sizeof area, NULL, 0), 20);
-    expect("a blank header", snap_z80_read(NULL, 0, NULL, 0, header, sizeof header), 1);
+    expect_no_place("no file", snap_z80_read(NULL, 0, area, sizeof area, header, sizeof header, &place), 2);
+    expect_no_place("no area", snap_z80_read(file, sizeof file, NULL, 0, header, sizeof header, &place), 1);
+    expect_no_place("no header", snap_z80_read(file, sizeof file, area, sizeof area, NULL, 0, &place), 20);
+    expect_no_place("a blank header", snap_z80_read(NULL, 0, NULL, 0, header, sizeof header, &place), 1);
     expect("write, no header", snap_z80_write(NULL, 0, area, sizeof area, file, sizeof file, &length), 20);
     expect("write, no area", snap_z80_write(header, sizeof header, NULL, 0, file, sizeof file, &length), 21);
     expect("write, no output", snap_z80_write(header, sizeof header, area, sizeof area, NULL, 0, &length), 22);

@@ -40,6 +40,13 @@ void expect_zero(const char *what, const uint8_t *given, size_t length)
     expect_bytes(what, given, zero, length);
 }
 
+/* A read's number and its offset. */
+void expect_read(const struct server_slot *slot, uint32_t number, struct refused_at due)
+{
+    expect("read", number, due.number);
+    expect("the offset", slot->offset, due.offset);
+}
+
 /* After a refused read: no memory, and the blank machine, whose counters are 443F and 3. */
 void expect_refused(const struct server_slot *slot)
 {

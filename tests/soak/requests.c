@@ -4,9 +4,11 @@
 
 static struct made made;
 
-static uint32_t read_file(struct server_slot *slot, const uint8_t *file, size_t length)
+static uint32_t read_file(struct server_slot *slot)
 {
-    return snap_z80_read(file, length, slot->area, sizeof slot->area, slot->header, sizeof slot->header);
+    slot->offset = OFFSET_DIRT;
+    return snap_z80_read(made.file, made.length, slot->area, sizeof slot->area, slot->header, sizeof slot->header,
+                         &slot->offset);
 }
 
 static void expect_made(const struct server_slot *slot)
@@ -18,24 +20,16 @@ static void expect_made(const struct server_slot *slot)
 static void read_request(struct server_slot *slot, uint64_t *seed)
 {
     make(&made, seed);
-    expect("read", read_file(slot, made.file, made.length), 0);
+    expect_read(slot, read_file(slot), (struct refused_at){0});
     expect_made(slot);
 }
 
-/* A file that is cut in its blocks, or that says that a Multiface is paged in. */
+/* A file that is damaged in one place. */
 static void damaged_request(struct server_slot *slot, uint64_t *seed)
 {
     make(&made, seed);
-    size_t length = made.length;
-    if (next(seed) % 4 == 0)
-        made.file[60] = 1;
-    else
-        length = SNAP_HEADER_SIZE + next(seed) % (length - SNAP_HEADER_SIZE);
-    uint32_t number = read_file(slot, made.file, length);
-    if (length == made.length)
-        expect("read", number, 7);
-    else if (number != 13)
-        expect("read", number, 8);
+    struct refused_at due = damage_file(&made, seed);
+    expect_read(slot, read_file(slot), due);
     expect_refused(slot);
 }
 

@@ -7,7 +7,9 @@ static struct made made;
 
 static uint32_t read_file_as_scs(struct server_slot *slot, size_t length)
 {
-    return snap_scs_read(made.file, length, slot->area, sizeof slot->area, slot->header, sizeof slot->header);
+    slot->offset = OFFSET_DIRT;
+    return snap_scs_read(made.file, length, slot->area, sizeof slot->area, slot->header, sizeof slot->header,
+                         &slot->offset);
 }
 
 /* A machine's SCS file is read into a slot that held another's. */
@@ -15,34 +17,36 @@ void scs_read_request(struct server_slot *slot, uint64_t *seed)
 {
     make(&made, seed);
     make_scs_file(&made);
-    expect("SCS read", read_file_as_scs(slot, made.length), 0);
+    expect_read(slot, read_file_as_scs(slot, made.length), (struct refused_at){0});
     scs_kept(made.header);
     expect_bytes("area", slot->area, made.area, sizeof made.area);
     expect_bytes("header", slot->header, made.header, sizeof made.header);
 }
 
-/* A file that is cut before its last block ends, or one byte of its start or of a block's head is another. */
+/* A file that is cut before its last block ends, a byte of its start or of its first block's head is another, or one of the
+   other two blocks has the number of the block before it. */
 void scs_damaged_request(struct server_slot *slot, uint64_t *seed)
 {
     static const uint8_t places[6] = {0, 7, 14, 15, 18, 19};
-    static const uint8_t numbers[6] = {SNAP_SCS_HEADER, SNAP_SCS_HEADER, SNAP_SCS_HEADER, SNAP_SCS_MEMORY_NOT_FIRST,
-                                       SNAP_BLOCK_CUT, SNAP_BLOCK_CUT};
+    static const struct refused_at due_there[6] = {{SNAP_SCS_HEADER, 0}, {SNAP_SCS_HEADER, 0}, {SNAP_SCS_HEADER, 0},
+                                                   {SNAP_SCS_MEMORY_NOT_FIRST, 0}, {SNAP_BLOCK_CUT, 15}, {SNAP_BLOCK_CUT, 15}};
     make(&made, seed);
     make_scs_file(&made);
+    /* the Ports block is the last, and 19 bytes long; the CPU block before it has 34 */
+    size_t length = made.length, ports = length - 5 - 24, cpu = ports - 39;
     uint64_t pick = next(seed);
-    if (pick % 3 == 0) {
-        made.file[places[pick / 3 % 6]] ^= 0x80;
-        expect("SCS read", read_file_as_scs(slot, made.length), numbers[pick / 3 % 6]);
+    struct refused_at due;
+    if (pick % 4 == 0) {
+        made.file[places[pick / 4 % 6]] ^= 0x80;
+        due = due_there[pick / 4 % 6];
+    } else if (pick % 4 == 1) {
+        due = (struct refused_at){SNAP_SCS_BLOCK_TWICE, pick / 4 % 2 ? ports : cpu};
+        made.file[due.offset] = pick / 4 % 2 ? 1 : 3;
     } else {
-        /* the Ports block is the last, and 19 bytes long */
-        size_t length = pick / 3 % (made.length - 5), borders[2] = {made.length - 5 - 24, made.length - 5 - 24 - 39};
-        uint32_t due = length < 15 ? SNAP_FILE_SHORT : SNAP_BLOCK_CUT;
-        if (length == 15)
-            due = SNAP_SCS_MEMORY_NOT_FIRST;
-        else if (length == borders[0] || length == borders[1])
-            due = SNAP_SCS_BLOCK_MISSING;
-        expect("SCS read", read_file_as_scs(slot, length), due);
+        length = pick / 4 % (length - 5);
+        due = scs_cut(made.file, length);
     }
+    expect_read(slot, read_file_as_scs(slot, length), due);
     expect_refused(slot);
 }
 

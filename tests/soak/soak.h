@@ -2,6 +2,7 @@
 #ifndef SOAK_H
 #define SOAK_H
 
+#include "../refused_at.h"
 #include "snapshot.h"
 
 #define LOG_SIZE 100u
@@ -12,12 +13,13 @@
 /* What a server keeps for a request, used again for a later one without clearing. */
 struct server_slot {
     uint8_t header[SNAP_HEADER_SIZE], area[SNAP_AREA_SIZE], log[LOG_SIZE], out[SNAP_FILE_MOST];
-    uint64_t standing, total, length;
+    uint64_t standing, total, length, offset;
 };
 
-/* What a request's seed says: a machine, its memory, and the file of both. It lies outside the slots. */
+/* What a request's seed says: a machine, its memory, and the file of both, with room for two bytes behind it. It lies
+   outside the slots. */
 struct made {
-    uint8_t header[SNAP_HEADER_SIZE], area[SNAP_AREA_SIZE], file[SNAP_FILE_MOST];
+    uint8_t header[SNAP_HEADER_SIZE], area[SNAP_AREA_SIZE], file[SNAP_FILE_MOST + 2];
     uint64_t length;
 };
 
@@ -27,6 +29,9 @@ int is_128(const uint8_t *header);
 void make(struct made *made, uint64_t *seed);
 void make_file(struct made *made);
 void make_scs_file(struct made *made);
+
+/* damage.c: the file of a request damaged, and the refusal that it then gets. */
+struct refused_at damage_file(struct made *made, uint64_t *seed);
 
 /* corrections.c */
 enum correction_kind { BYTE = 1, PAIR, OUT };
@@ -53,6 +58,7 @@ extern uint64_t bytes_checked;
 void expect(const char *call, uint64_t given, uint64_t due);
 void expect_bytes(const char *what, const uint8_t *given, const uint8_t *due, size_t length);
 void expect_zero(const char *what, const uint8_t *given, size_t length);
+void expect_read(const struct server_slot *slot, uint32_t number, struct refused_at due);
 void expect_refused(const struct server_slot *slot);
 
 /* stored.c: files read once into a clean area, and again into dirty slots. */

@@ -9,7 +9,7 @@
 static struct stored_file {
     uint8_t *file;
     size_t length;
-    uint32_t number;
+    struct refused_at first;
     uint8_t header[SNAP_HEADER_SIZE];
     uint8_t *area;
 } files[MOST];
@@ -21,11 +21,12 @@ static void fail(const char *what, const char *name)
     exit(1);
 }
 
-static uint32_t read_into(const struct stored_file *stored, uint8_t *area, uint8_t *header)
+static uint32_t read_into(const struct stored_file *stored, uint8_t *area, uint8_t *header, uint64_t *offset)
 {
+    *offset = OFFSET_DIRT;
     if (stored->length >= 8 && memcmp(stored->file, "SamSnap!", 8) == 0)
-        return snap_scs_read(stored->file, stored->length, area, SNAP_AREA_SIZE, header, SNAP_HEADER_SIZE);
-    return snap_z80_read(stored->file, stored->length, area, SNAP_AREA_SIZE, header, SNAP_HEADER_SIZE);
+        return snap_scs_read(stored->file, stored->length, area, SNAP_AREA_SIZE, header, SNAP_HEADER_SIZE, offset);
+    return snap_z80_read(stored->file, stored->length, area, SNAP_AREA_SIZE, header, SNAP_HEADER_SIZE, offset);
 }
 
 /* A .z80 file, or an input of the fuzz target: a file, SCS files among them, after its first two bytes. */
@@ -47,14 +48,17 @@ void store(const char *name)
     if (stored->file == NULL || stored->area == NULL)
         fail("no memory", name);
     memcpy(stored->file, bytes + skipped, stored->length);
-    stored->number = read_into(stored, stored->area, stored->header);
+    struct refused_at *first = &stored->first;
+    first->number = read_into(stored, stored->area, stored->header, &first->offset);
+    if (has_offset(first->number) ? first->offset == 0 || first->offset > stored->length : first->offset != 0)
+        fail("its number and its offset do not go together", name);
 }
 
 void stored_request(struct server_slot *slot, uint64_t *seed)
 {
     const struct stored_file *stored = &files[next(seed) % count];
-    expect("read", read_into(stored, slot->area, slot->header), stored->number);
-    if (stored->number != 0)
+    expect_read(slot, read_into(stored, slot->area, slot->header, &slot->offset), stored->first);
+    if (stored->first.number != 0)
         expect_refused(slot);
     expect_bytes("area", slot->area, stored->area, SNAP_AREA_SIZE);
     expect_bytes("header", slot->header, stored->header, SNAP_HEADER_SIZE);

@@ -50,12 +50,16 @@ uint32_t make_call(struct lent_buffers *lent, const struct tried_call *call)
     static const uint8_t rom[SNAP_ROM_SIZE_128K + 1];
     switch (call->function) {
     case READ:
-        return snap_z80_read(call->file, call->file_len, lent->area, call->area_len, lent->header, call->header_len);
+        lent->place = OFFSET_DIRT;
+        return snap_z80_read(call->file, call->file_len, lent->area, call->area_len, lent->header, call->header_len,
+                             &lent->place);
     case WRITE:
         return snap_z80_write(lent->header, call->header_len, lent->area, call->area_len, lent->out, call->out_len,
                               &lent->length);
     case SCS_READ:
-        return snap_scs_read(call->file, call->file_len, lent->area, call->area_len, lent->header, call->header_len);
+        lent->place = OFFSET_DIRT;
+        return snap_scs_read(call->file, call->file_len, lent->area, call->area_len, lent->header, call->header_len,
+                             &lent->place);
     case SCS_WRITE:
         return snap_scs_write(lent->header, call->header_len, lent->area, call->area_len, lent->out, call->out_len,
                               &lent->length);

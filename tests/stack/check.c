@@ -82,8 +82,6 @@ void try_call(const char *name, const struct tried_call *call, uint32_t due)
     const char *fault = used == DIED ? NULL : fault_of(number, again, is_same);
     tally_call(name, call, used);
     tallies[call->function].numbers |= (uint64_t)1 << (number < 63 ? number : 63);
-    if (due == REFUSED && number == 0)
-        differ(name, function, "is accepted");
     if (due < ANY && number != due) {
         snprintf(text, sizeof text, "gives %u, not %u", number, due);
         differ(name, function, text);
@@ -92,6 +90,13 @@ void try_call(const char *name, const struct tried_call *call, uint32_t due)
         differ(name, function, fault);
     if (!is_same)
         level();
+}
+
+/* A read: its number and its offset. */
+void try_read(const char *name, const struct tried_call *call, struct refused_at due)
+{
+    try_call(name, call, due.number);
+    expect_holds(name, "the offset is another", ordinary.place == due.offset);
 }
 
 void expect_holds(const char *name, const char *what, int holds)

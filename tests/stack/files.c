@@ -48,46 +48,51 @@ void try_read_lengths(const struct file *file)
     for (unsigned at = 0; at < 4; at++) {
         struct tried_call call = read_call(file);
         call.area_len = areas[at];
-        try_call(file->name, &call, SNAP_AREA_LENGTH);
+        try_read(file->name, &call, (struct refused_at){SNAP_AREA_LENGTH, 0});
         call.header_len = headers[at];
-        try_call(file->name, &call, SNAP_INVALID_MACHINE);
+        try_read(file->name, &call, (struct refused_at){SNAP_INVALID_MACHINE, 0});
         call.area_len = SNAP_AREA_SIZE;
-        try_call(file->name, &call, SNAP_INVALID_MACHINE);
+        try_read(file->name, &call, (struct refused_at){SNAP_INVALID_MACHINE, 0});
     }
+}
+
+static void try_cut(const struct file *file, size_t length)
+{
+    struct tried_call call = read_call(file);
+    call.file_len = length;
+    try_read(file->name, &call, z80_cut(file->bytes, length));
 }
 
 /* No beginning of an accepted file is accepted. */
 static void try_cuts(const struct file *file)
 {
-    size_t step = file->length / 40 + 1;
-    struct tried_call call = read_call(file);
-    for (call.file_len = 0; call.file_len < 90; call.file_len++)
-        try_call(file->name, &call, call.file_len < 30 ? SNAP_FILE_SHORT : REFUSED);
-    for (; call.file_len < file->length; call.file_len += step)
-        try_call(file->name, &call, REFUSED);
-    call.file_len = file->length - 1;
-    try_call(file->name, &call, REFUSED);
+    size_t step = file->length / 40 + 1, length = 0;
+    for (; length < 90; length++)
+        try_cut(file, length);
+    for (; length < file->length; length += step)
+        try_cut(file, length);
+    try_cut(file, file->length - 1);
 }
 
 /* The file as it is; accepted, it is also cut, its area compared where it is known, and its machine used. */
-void try_file(const char *name, const uint8_t *bytes, size_t length, uint32_t due, const uint8_t *area)
+void try_file(const char *name, const uint8_t *bytes, size_t length, struct refused_at due, const uint8_t *area)
 {
     static const uint8_t zeros[SNAP_AREA_SIZE];
     const struct file *file = keep(READ, name, bytes, length);
     struct tried_call call = read_call(file);
     try_read_lengths(file);
-    if (due == 0)
+    if (due.number == 0)
         try_cuts(file);
-    try_call(file->name, &call, due);
-    if (due != 0)
+    try_read(file->name, &call, due);
+    if (due.number != 0)
         area = zeros;
     if (area != NULL)
         expect_holds(file->name, "the area is not what it must be", memcmp(ordinary.area, area, SNAP_AREA_SIZE) == 0);
-    if (due == 0)
+    if (due.number == 0)
         use_machine(file->name);
 }
 
-/* The number that reading a stored file gives: the table's, and 0 for a sample. */
+/* The number that reading a stored file gives: the table's, and 0 for a sample. All that are refused have a bad header. */
 static uint32_t due_of_file(const char *path)
 {
     char name[100], sum[20];
@@ -115,5 +120,5 @@ void try_stored(const char *path)
         stop("cannot be opened", path);
     size_t length = fread(bytes, 1, sizeof bytes, from);
     fclose(from);
-    try_file(path, bytes, length, due_of_file(path), NULL);
+    try_file(path, bytes, length, (struct refused_at){due_of_file(path), 0}, NULL);
 }

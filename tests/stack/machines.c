@@ -59,7 +59,7 @@ static void try_writes(const char *name)
     call = usual(READ, &ordinary);
     call.file = file;
     call.file_len = length;
-    try_call(name, &call, 0);
+    try_read(name, &call, (struct refused_at){0});
     expect_holds(name, "the header does not read back", memcmp(header, ordinary.header, sizeof header) == 0);
     expect_holds(name, "the area does not read back", memcmp(area, ordinary.area, sizeof area) == 0);
 }

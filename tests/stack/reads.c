@@ -6,6 +6,7 @@
 
 #define PACKED_V1 0x20 /* in byte 12 of a v1 header */
 #define SAMROM_V1 0x10
+#define V1_BODY 30u
 
 /* The file that is made: accepted as a 48K (0) or a 128K (1) machine, or refused. */
 static void read_accepted(const char *name, int is_128k)
@@ -15,12 +16,12 @@ static void read_accepted(const char *name, int is_128k)
     for (unsigned page = 0; !is_128k && page < 8; page++)
         if (page != 0 && page != 2 && page != 5)
             memset(due + page * SNAP_PAGE_SIZE, 0, SNAP_PAGE_SIZE);
-    try_file(name, made.bytes, made.length, 0, due);
+    try_file(name, made.bytes, made.length, (struct refused_at){0}, due);
 }
 
-static void read_refused(const char *name, uint32_t due)
+static void read_refused(const char *name, uint32_t due, size_t place)
 {
-    try_file(name, made.bytes, made.length, due, NULL);
+    try_file(name, made.bytes, made.length, (struct refused_at){due, place}, NULL);
 }
 
 /* The memory of a v1 file, less so many bytes at its end. */
@@ -56,13 +57,14 @@ static void v1_good(void)
     read_accepted("v1 plain, byte 12 is 255", 0);
 }
 
-/* A v1 file whose packed stream lacks its last bytes, and then other ones. */
+/* A v1 file whose packed stream lacks its last bytes, and then other ones, which begin with the bad code where there is one. */
 static void v1_ends(const char *name, size_t less, const uint8_t *end, size_t count, uint32_t due)
 {
     put_header(1, PACKED_V1);
     put_stream(PACKED, less);
+    size_t code = made.length;
     put_bytes(end, count);
-    read_refused(name, due);
+    read_refused(name, due, due == SNAP_MALFORMED_DATA ? code : due == SNAP_END_MARKER ? made.length : V1_BODY);
 }
 
 static void v1_bad(void)
@@ -83,18 +85,18 @@ static void v1_bad(void)
     for (unsigned left = 20000; left > 0; left--)
         put_run(255, ED);
     put_marker();
-    read_refused("v1 of five million bytes", SNAP_UNPACKED_LENGTH);
+    read_refused("v1 of five million bytes", SNAP_UNPACKED_LENGTH, V1_BODY);
     put_header(1, 0);
     put_stream(PLAIN, 1);
-    read_refused("v1 plain, one byte less", SNAP_UNPACKED_LENGTH);
+    read_refused("v1 plain, one byte less", SNAP_UNPACKED_LENGTH, V1_BODY);
     put_byte(0);
     put_byte(0);
-    read_refused("v1 plain, one byte more", SNAP_UNPACKED_LENGTH);
+    read_refused("v1 plain, one byte more", SNAP_UNPACKED_LENGTH, V1_BODY);
     put_header(1, SAMROM_V1);
-    read_refused("v1 with SamRom", SNAP_MODE_NOT_CARRIED);
+    read_refused("v1 with SamRom", SNAP_MODE_NOT_CARRIED, 0);
     put_header(1, PACKED_V1);
     made.bytes[29] |= 3;
-    read_refused("v1, interrupt mode 3", SNAP_INTERRUPT_MODE);
+    read_refused("v1, interrupt mode 3", SNAP_INTERRUPT_MODE, 0);
 }
 
 /* Every mode of v2 and v3, or one of each model, stored in three ways. */
@@ -113,7 +115,7 @@ static void later_good(unsigned version, int is_each)
             if (is_carried)
                 read_accepted(name, is_128_mode(version, (uint8_t)mode));
             else if (storing == PACKED)
-                read_refused(name, SNAP_MODE_NOT_CARRIED);
+                read_refused(name, SNAP_MODE_NOT_CARRIED, 0);
         }
     }
 }
@@ -126,7 +128,7 @@ static void header_bad(unsigned version, unsigned at, uint8_t value, uint32_t du
     put_header(version, version == 2 ? 3 : 4);
     put_blocks(version, made.bytes[34], PACKED);
     made.bytes[at] = value;
-    read_refused(name, due);
+    read_refused(name, due, 0);
 }
 
 static void headers_bad(void)
@@ -142,15 +144,16 @@ static void headers_bad(void)
     header_bad(3, 60, 1, SNAP_BYTE_60);
 }
 
-/* Some bytes after all blocks, or after all but the last. */
+/* Some bytes after all blocks, or after all but the last; a bad code is the first of their data. */
 static void blocks_end(const char *name, int is_whole, const uint8_t *end, size_t count, uint32_t due)
 {
     put_header(3, 0);
     put_blocks(3, 0, PLAIN);
     if (!is_whole)
         made.length -= SNAP_PAGE_SIZE + 3;
+    size_t head = made.length;
     put_bytes(end, count);
-    read_refused(name, due);
+    read_refused(name, due, due == SNAP_MALFORMED_DATA ? head + 3 : due == SNAP_BLOCK_MISSING ? 0 : head);
 }
 
 static void blocks_bad(void)
@@ -158,6 +161,7 @@ static void blocks_bad(void)
     static const uint8_t head[3] = {1, 0, 4}, strange[4] = {1, 0, 3, 7}, again[4] = {1, 0, 4, 7};
     static const uint8_t zero_run[7] = {4, 0, 5, ED, ED, 0, 7}, cut_run[6] = {3, 0, 5, ED, ED, 9}, one[4] = {1, 0, 5, 7};
     static const uint8_t cut_plain[4] = {255, 255, 5, 7};
+    blocks_end("one byte left over", 1, head, 1, SNAP_BLOCK_CUT);
     blocks_end("a block's head cut", 1, head, 2, SNAP_BLOCK_CUT);
     blocks_end("a block without its data", 1, head, 3, SNAP_BLOCK_CUT);
     blocks_end("a plain block cut", 0, cut_plain, 4, SNAP_BLOCK_CUT);
@@ -172,7 +176,7 @@ static void blocks_bad(void)
     for (unsigned left = 1000; left > 0; left--)
         put_run(255, 7);
     memcpy(made.bytes + SNAP_HEADER_SIZE, "\xA0\x0F\x03", 3);
-    read_refused("a block of 255,000 bytes", SNAP_UNPACKED_LENGTH);
+    read_refused("a block of 255,000 bytes", SNAP_UNPACKED_LENGTH, SNAP_HEADER_SIZE);
 }
 
 void try_made(void)

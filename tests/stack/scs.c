@@ -31,7 +31,7 @@ void try_scs_writes(const char *name)
     call = usual(SCS_READ, &ordinary);
     call.file = file;
     call.file_len = length;
-    try_call(name, &call, 0);
+    try_read(name, &call, (struct refused_at){0});
     expect_holds(name, "another header comes back from SCS", memcmp(kept, ordinary.header, sizeof kept) == 0);
     expect_holds(name, "another area comes back from SCS", memcmp(area, ordinary.area, sizeof area) == 0);
     memcpy(ordinary.header, header, sizeof header);
@@ -89,10 +89,13 @@ static void try_scs_cuts(const struct file *file)
 {
     size_t last = file->length - 5;
     struct tried_call call = read_call(file);
-    for (call.file_len = 0; call.file_len < last; call.file_len = next_cut(call.file_len, last))
-        try_call(file->name, &call, call.file_len < 15 ? SNAP_FILE_SHORT : REFUSED);
+    for (call.file_len = 0; call.file_len < last; call.file_len = next_cut(call.file_len, last)) {
+        struct refused_at due = scs_cut(file->bytes, call.file_len);
+        expect_holds(file->name, "a cut file would be good", due.number != 0);
+        try_read(file->name, &call, due);
+    }
     for (; call.file_len < file->length; call.file_len++)
-        try_call(file->name, &call, 0);
+        try_read(file->name, &call, (struct refused_at){0});
 }
 
 /* The file that is made: its area as `memory` has it, less pages that a 48K does not own. */
@@ -107,18 +110,18 @@ static void read_scs(const char *name, int is_128k)
             memset(due + page * SNAP_PAGE_SIZE, 0, SNAP_PAGE_SIZE);
     try_read_lengths(file);
     try_scs_cuts(file);
-    try_call(name, &call, 0);
+    try_read(name, &call, (struct refused_at){0});
     expect_holds(name, "the area is not what it must be", memcmp(ordinary.area, due, sizeof due) == 0);
     use_machine(name);
 }
 
-static void refuse_scs(const char *name, uint32_t due)
+static void refuse_scs(const char *name, uint32_t due, size_t place)
 {
     static const uint8_t zeros[SNAP_AREA_SIZE];
     const struct file *file = keep(SCS_READ, name, made.bytes, made.length);
     struct tried_call call = read_call(file);
     try_read_lengths(file);
-    try_call(name, &call, due);
+    try_read(name, &call, (struct refused_at){due, place});
     expect_holds(name, "the area is not zero", memcmp(ordinary.area, zeros, sizeof zeros) == 0);
 }
 
@@ -154,32 +157,34 @@ static void scs_ends(const char *name, const char *end, size_t count, uint32_t d
 {
     put_memory(0, 1);
     put_random(1, CPU_BYTES);
+    size_t head = made.length;
     put_bytes((const uint8_t *)end, count);
-    refuse_scs(name, due);
+    refuse_scs(name, due, due == SNAP_SCS_BLOCK_MISSING ? 0 : head);
 }
 
 static void scs_bad(void)
 {
     scs_ends("SCS without Ports", "", 0, SNAP_SCS_BLOCK_MISSING);
     scs_ends("SCS, an end before Ports", "\0\2\0\0\0\0", 6, SNAP_SCS_BLOCK_MISSING);
+    scs_ends("SCS, one byte left over", "\2", 1, SNAP_BLOCK_CUT);
     scs_ends("SCS, a block's head cut", "\2\0\0\0", 4, SNAP_BLOCK_CUT);
     scs_ends("SCS, a block without its data", "\2\1\0\0\0", 5, SNAP_BLOCK_CUT);
     scs_ends("SCS, a block of 4,294,967,295 bytes", "\t\377\377\377\377", 5, SNAP_BLOCK_CUT);
     scs_ends("SCS, CPU twice", "\1\0\0\0\0", 5, SNAP_SCS_BLOCK_TWICE);
     scs_ends("SCS, Memory twice", "\3\0\0\0\0", 5, SNAP_SCS_BLOCK_TWICE);
     put_start(1);
-    refuse_scs("SCS of its start alone", SNAP_SCS_MEMORY_NOT_FIRST);
+    refuse_scs("SCS of its start alone", SNAP_SCS_MEMORY_NOT_FIRST, 0);
     put_random(1, CPU_BYTES);
-    refuse_scs("SCS, CPU first", SNAP_SCS_MEMORY_NOT_FIRST);
+    refuse_scs("SCS, CPU first", SNAP_SCS_MEMORY_NOT_FIRST, 0);
     put_start(0);
-    refuse_scs("SCS of a Sam", SNAP_SCS_HEADER);
+    refuse_scs("SCS of a Sam", SNAP_SCS_HEADER, 0);
     put_memory(1, 0);
     put_random(2, 0);
     put_random(1, CPU_BYTES);
     made.bytes[made.length - CPU_BYTES + 26] = 3;
-    refuse_scs("SCS, interrupt mode 3", SNAP_INTERRUPT_MODE);
+    refuse_scs("SCS, interrupt mode 3", SNAP_INTERRUPT_MODE, 0);
     made.length = 14;
-    refuse_scs("SCS of 14 bytes", SNAP_FILE_SHORT);
+    refuse_scs("SCS of 14 bytes", SNAP_FILE_SHORT, 0);
 }
 
 void try_scs(void)

@@ -5,6 +5,7 @@
 /* For mapped stacks, contexts and signal stacks. */
 #define _DEFAULT_SOURCE
 #define _XOPEN_SOURCE 700
+#include "../refused_at.h"
 #include "snapshot.h"
 
 #define STACK_SIZE 16384u
@@ -25,7 +26,7 @@ struct lent_buffers {
         uint8_t in_rom, model, attachment, page;
         uint16_t pair, offset;
     } figures;
-    uint64_t standing, total, length, start;
+    uint64_t standing, total, length, start, place; /* place: the offset that a read gives */
 };
 
 /* A call: its function, the file for a read, how much of each buffer is lent, and what is asked. */
@@ -49,8 +50,7 @@ void own_signal_stack(uint8_t *memory, size_t size);
 size_t call_on_small(struct lent_buffers *lent, const struct tried_call *call, uint32_t *number);
 
 /* check.c: every call is made twice, on the ordinary stack with `ordinary` and on a small one with `small`. */
-#define ANY 1000u     /* whatever number the ordinary stack gives */
-#define REFUSED 1001u /* any number but 0 */
+#define ANY 1000u /* whatever number the ordinary stack gives */
 extern struct lent_buffers ordinary;
 extern unsigned passed, failed;
 /* The call that is tried, and over which file. */
@@ -59,6 +59,7 @@ extern struct trying {
 } trying;
 void level(void);
 void try_call(const char *name, const struct tried_call *call, uint32_t due);
+void try_read(const char *name, const struct tried_call *call, struct refused_at due);
 void expect_holds(const char *name, const char *what, int holds);
 void close_check(int holds, const char *format, ...);
 void report_calls(void);
@@ -76,7 +77,7 @@ extern unsigned file_count;
 const struct file *keep(enum function reader, const char *name, const uint8_t *bytes, size_t length);
 struct tried_call read_call(const struct file *file);
 void try_read_lengths(const struct file *file);
-void try_file(const char *name, const uint8_t *bytes, size_t length, uint32_t due, const uint8_t *area);
+void try_file(const char *name, const uint8_t *bytes, size_t length, struct refused_at due, const uint8_t *area);
 void try_stored(const char *path);
 
 /* made.c, reads.c */

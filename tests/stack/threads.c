@@ -68,6 +68,7 @@ static uint64_t sum_of(const struct lent_buffers *lent, const struct tried_call 
     sum = add(sum, &lent->total, sizeof lent->total);
     sum = add(sum, &lent->length, sizeof lent->length);
     sum = add(sum, &lent->start, sizeof lent->start);
+    sum = add(sum, &lent->place, sizeof lent->place);
     sum = add(sum, &lent->figures, sizeof lent->figures);
     if (call->function == READ || call->function == SCS_READ || at % 64 == 0)
         sum = add(sum, lent->area, sizeof lent->area);
