@@ -6,28 +6,37 @@
 #include <string.h>
 #include <time.h>
 
-uint32_t other_snap_z80_read(const uint8_t *, size_t, uint8_t *, size_t, uint8_t *, size_t);
-uint32_t other_snap_z80_write(const uint8_t *, size_t, const uint8_t *, size_t, uint8_t *, size_t, uint64_t *);
-uint32_t other_snap_correct_byte(uint8_t *, size_t, uint8_t *, size_t, uint8_t *, size_t, uint64_t *, uint64_t *, uint16_t, uint8_t);
-uint32_t other_snap_undo(uint8_t *, size_t, uint8_t *, size_t, uint8_t *, size_t, uint64_t *, uint64_t *);
-uint32_t other_snap_redo(uint8_t *, size_t, uint8_t *, size_t, uint8_t *, size_t, uint64_t *, uint64_t *);
+typedef uint32_t reading(const uint8_t *, size_t, uint8_t *, size_t, uint8_t *, size_t, uint64_t *);
+typedef uint32_t reading_before(const uint8_t *, size_t, uint8_t *, size_t, uint8_t *, size_t);
+typedef uint32_t writing(const uint8_t *, size_t, const uint8_t *, size_t, uint8_t *, size_t, uint64_t *);
+typedef uint32_t correcting(uint8_t *, size_t, uint8_t *, size_t, uint8_t *, size_t, uint64_t *, uint64_t *, uint16_t, uint8_t);
+typedef uint32_t moving(uint8_t *, size_t, uint8_t *, size_t, uint8_t *, size_t, uint64_t *, uint64_t *);
 
+uint32_t other_snap_version(void);
+/* Readers have no offset before version 400: their type is known when the program runs. There is none of SCS before 300. */
+void other_snap_z80_read(void);
+__attribute__((weak)) void other_snap_scs_read(void);
+writing other_snap_z80_write;
+correcting other_snap_correct_byte;
+moving other_snap_undo, other_snap_redo;
+
+/* A reader with its offset, or one without; the other is NULL. */
+struct build_reader { reading *with_offset; reading_before *without; };
 struct build {
-    uint32_t (*read)(const uint8_t *, size_t, uint8_t *, size_t, uint8_t *, size_t);
-    uint32_t (*write)(const uint8_t *, size_t, const uint8_t *, size_t, uint8_t *, size_t, uint64_t *);
-    uint32_t (*correct)(uint8_t *, size_t, uint8_t *, size_t, uint8_t *, size_t, uint64_t *, uint64_t *, uint16_t, uint8_t);
-    uint32_t (*undo)(uint8_t *, size_t, uint8_t *, size_t, uint8_t *, size_t, uint64_t *, uint64_t *);
-    uint32_t (*redo)(uint8_t *, size_t, uint8_t *, size_t, uint8_t *, size_t, uint64_t *, uint64_t *);
+    struct build_reader z80, scs;
+    writing *write;
+    correcting *correct;
+    moving *undo, *redo;
 };
-static const struct build ours = { snap_z80_read, snap_z80_write, snap_correct_byte, snap_undo, snap_redo };
-static const struct build theirs = { other_snap_z80_read, other_snap_z80_write, other_snap_correct_byte, other_snap_undo, other_snap_redo };
+static const struct build ours = { { snap_z80_read, NULL }, { snap_scs_read, NULL }, snap_z80_write, snap_correct_byte, snap_undo, snap_redo };
+static struct build theirs = { .write = other_snap_z80_write, .correct = other_snap_correct_byte, .undo = other_snap_undo, .redo = other_snap_redo };
 
 enum { ROUNDS = 41, FILES = 64, STEPS = 4096, CALLS = 512 };
-static uint8_t *files[FILES];
-static size_t lengths[FILES];
-static int count;
+/* The files; each as an SCS file; those whose last block is packed, with a bad code at their end. */
+static struct loaded { uint8_t *bytes; size_t length; } files[FILES], scs_files[FILES], bad_files[FILES];
+static int count, bad_count;
 static uint8_t area[131072], head[86], out[131182], journal[STEPS * 11];
-static uint64_t size, standing, total;
+static uint64_t size, standing, total, offset;
 
 static double now(void)
 {
@@ -36,17 +45,70 @@ static double now(void)
     return t.tv_sec + t.tv_nsec * 1e-9;
 }
 
+static void fail(const char *name, const char *what)
+{
+    fprintf(stderr, "beside: %s: %s\n", name, what);
+    exit(2);
+}
+
+static struct build_reader reader_of(void (*other)(void))
+{
+    return other_snap_version() < 400 ? (struct build_reader){ NULL, (reading_before *)other } : (struct build_reader){ (reading *)other, NULL };
+}
+
+static uint32_t read_by(struct build_reader by, const struct loaded *file)
+{
+    if (by.with_offset) return by.with_offset(file->bytes, file->length, area, sizeof area, head, sizeof head, &offset);
+    return by.without(file->bytes, file->length, area, sizeof area, head, sizeof head);
+}
+
+/* Both builds give this number. */
+static int both_give(uint32_t number, int is_scs, const struct loaded *file)
+{
+    struct build_reader by = is_scs ? theirs.scs : theirs.z80;
+    return read_by(is_scs ? ours.scs : ours.z80, file) == number && (!(by.with_offset || by.without) || read_by(by, file) == number);
+}
+
+static struct loaded kept(const uint8_t *bytes, size_t length, size_t more)
+{
+    struct loaded file = { malloc(length + more), length };
+    if (!file.bytes) fail("memory", "there is too little");
+    memcpy(file.bytes, bytes, length);
+    return file;
+}
+
+/* ED ED behind a last block that is packed: it is refused at its end. */
+static void spoil(const struct loaded *file)
+{
+    size_t at = file->bytes[6] || file->bytes[7] ? file->length : file->bytes[30] == 23 ? 55 : 86, last = 0, length = 0;
+    for (; at < file->length; at += 3 + (length == 65535 ? 16384 : length)) {
+        last = at;
+        length = file->bytes[at] + file->bytes[at + 1] * 256u;
+    }
+    if (!last || length > 65532) return;
+    struct loaded bad = kept(file->bytes, file->length, 2);
+    memset(bad.bytes + bad.length, 0xED, 2);
+    bad.length += 2;
+    bad.bytes[last] = (uint8_t)(length + 2);
+    bad.bytes[last + 1] = (uint8_t)((length + 2) / 256);
+    bad_files[bad_count++] = bad;
+}
+
 static void load(const char *name)
 {
+    static uint8_t bytes[600000];
     FILE *f = fopen(name, "rb");
-    uint8_t *bytes = malloc(600000);
-    size_t n;
-    if (!f || !bytes || count == FILES) { fprintf(stderr, "beside: %s: not read\n", name); exit(2); }
-    n = fread(bytes, 1, 600000, f);
+    if (!f || count == FILES) fail(name, "not read");
+    struct loaded file = { bytes, fread(bytes, 1, sizeof bytes, f) };
     fclose(f);
-    if (snap_z80_read(bytes, n, area, sizeof area, head, sizeof head)) { free(bytes); return; }
-    files[count] = bytes;
-    lengths[count++] = n;
+    if (read_by(ours.z80, &file)) return;
+    if (snap_scs_write(head, sizeof head, area, sizeof area, out, sizeof out, &size)) fail(name, "not written as SCS");
+    scs_files[count] = kept(out, (size_t)size, 0);
+    files[count] = kept(bytes, file.length, 0);
+    spoil(&files[count]);
+    if (!both_give(0, 0, &files[count]) || !both_give(0, 1, &scs_files[count])) fail(name, "the builds do not agree");
+    if (bad_count && !both_give(11, 0, &bad_files[bad_count - 1])) fail(name, "not refused as 11 at its end");
+    count++;
 }
 
 static void corrections(const struct build *by)
@@ -55,27 +117,32 @@ static void corrections(const struct build *by)
         by->correct(head, sizeof head, area, sizeof area, journal, sizeof journal, &standing, &total, (uint16_t)(0x8000 + k), (uint8_t)k);
 }
 
-static void calls(uint32_t (*call)(uint8_t *, size_t, uint8_t *, size_t, uint8_t *, size_t, uint64_t *, uint64_t *))
+static void calls(moving *call)
 {
     for (int k = 0; k < CALLS; k++) call(head, sizeof head, area, sizeof area, journal, sizeof journal, &standing, &total);
 }
 
-/* The seconds of one of the five parts. What comes before the clock starts is done by the same build: the processor remembers
+enum timed_part { READ, READ_SCS, READ_BAD, WRITE, CORRECT, UNDO, REDO, PARTS };
+
+/* The seconds of one of the parts. What comes before the clock starts is done by the same build: the processor remembers
    where it went. */
-static double seconds_of(int which, const struct build *by)
+static double seconds_of(enum timed_part part, const struct build *by)
 {
     double start, spent = 0;
-    for (int i = 0; i < count; i++) {
-        by->read(files[i], lengths[i], area, sizeof area, head, sizeof head);
+    for (int i = 0; i < (part == READ_BAD ? bad_count : count); i++) {
+        read_by(by->z80, &files[i]);
         snap_log_start(journal, sizeof journal, &standing, &total);
-        if (which >= 3) corrections(by);
-        if (which == 4) calls(by->undo);
+        if (part == READ_SCS) read_by(by->scs, &scs_files[i]);
+        if (part >= UNDO) corrections(by);
+        if (part == REDO) calls(by->undo);
         start = now();
-        switch (which) {
-        case 0: by->read(files[i], lengths[i], area, sizeof area, head, sizeof head); break;
-        case 1: by->write(head, sizeof head, area, sizeof area, out, sizeof out, &size); break;
-        case 2: corrections(by); break;
-        case 3: calls(by->undo); break;
+        switch (part) {
+        case READ: read_by(by->z80, &files[i]); break;
+        case READ_SCS: read_by(by->scs, &scs_files[i]); break;
+        case READ_BAD: read_by(by->z80, &bad_files[i]); break;
+        case WRITE: by->write(head, sizeof head, area, sizeof area, out, sizeof out, &size); break;
+        case CORRECT: corrections(by); break;
+        case UNDO: calls(by->undo); break;
         default: calls(by->redo);
         }
         spent += now() - start;
@@ -89,23 +156,32 @@ static int less(const void *a, const void *b)
     return (x > y) - (x < y);
 }
 
+static void compare(enum timed_part part, const char *name)
+{
+    double ratio[ROUNDS];
+    for (int round = 0; round < ROUNDS; round++) {
+        double a, b;
+        if (round % 2) { a = seconds_of(part, &ours); b = seconds_of(part, &theirs); }
+        else { b = seconds_of(part, &theirs); a = seconds_of(part, &ours); }
+        ratio[round] = a / b;
+    }
+    qsort(ratio, ROUNDS, sizeof *ratio, less);
+    printf("  %-18s %.2f\n", name, ratio[ROUNDS / 2]);
+}
+
 int main(int argc, char **argv)
 {
-    static const char *const names[] = { "reading", "writing", "a byte corrected", "undo", "redo" };
-    double ratio[ROUNDS];
-    int i, which, round;
-    for (i = 1; i < argc; i++) load(argv[i]);
-    if (!count) { fprintf(stderr, "beside: no file is accepted\n"); return 2; }
-    printf("%d files; the median over %d rounds of this build's time to the other one's\n", count, ROUNDS);
-    for (which = 0; which < 5; which++) {
-        for (round = 0; round < ROUNDS; round++) {
-            double a, b;
-            if (round % 2) { a = seconds_of(which, &ours); b = seconds_of(which, &theirs); }
-            else { b = seconds_of(which, &theirs); a = seconds_of(which, &ours); }
-            ratio[round] = a / b;
-        }
-        qsort(ratio, ROUNDS, sizeof *ratio, less);
-        printf("  %-18s %.2f\n", names[which], ratio[ROUNDS / 2]);
+    static const char *const names[PARTS] = { "reading", "reading SCS", "refused as 11", "writing", "a byte corrected", "undo", "redo" };
+    theirs.z80 = reader_of(other_snap_z80_read);
+    if (other_snap_scs_read) theirs.scs = reader_of(other_snap_scs_read);
+    for (int i = 1; i < argc; i++) load(argv[i]);
+    if (!count) fail("all files", "none is accepted");
+    printf("%d files, %d of them also with a bad code at the end; the median over %d rounds of this build's time to that of the other one, version %u\n",
+           count, bad_count, ROUNDS, (unsigned)other_snap_version());
+    for (int part = 0; part < PARTS; part++) {
+        if (part == READ_SCS && !other_snap_scs_read) continue;
+        if (part == READ_BAD && !bad_count) continue;
+        compare((enum timed_part)part, names[part]);
     }
     return 0;
 }
