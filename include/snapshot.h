@@ -219,7 +219,7 @@ uint32_t snap_version(void);
  *     12              the head of the block; in v1 30
  *     14              the length of the file
  *     42                                                                the head of the block
- *     every other     0                                                 0
+ *     0, all others   0                                                 0
  *
  * A place is never 0 and at most file_len; only for 14 does no byte stand there. Bytes left over are 1 or 2 (SCS: 1 to 4) that
  * are too few for a head. A bad code is ED ED with a count of 0 or with fewer than two bytes behind it in its data.

@@ -1,6 +1,7 @@
 /* blocks.c: the blocks of a .Z80 or SCS file, by what their heads say of themselves. */
 #include "tool.h"
 
+#define Z80_HEADER_V2 55u
 #define Z80_BLOCK_HEAD 3u
 #define Z80_PLAIN 0xFFFFu
 
@@ -21,7 +22,7 @@ static size_t first_block(const uint8_t *file, size_t length)
     if (is_scs(file, length))
         return SCS_HEADER;
     switch (version_of(file, length)) {
-    case 2: return SNAP_AT_LOW_COUNTER;
+    case 2: return Z80_HEADER_V2;
     case 3: return SNAP_HEADER_SIZE;
     default: return 0;
     }

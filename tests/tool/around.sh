@@ -55,6 +55,8 @@ at_the_end() {
     head -c 3905 samples/picture.txt | shows 14 3905 240 244
     { zero_page | z80_block 8; zero_page | z80_block 4; printf '\1\2'; } | as_v3 | shows 8 612 34 38
     { : | block 3; cpu_block; ports_block; printf '\1'; } | scs 1 | shows 8 83 1 5
+    # one row behind the place
+    { : | block 3; cpu_block; ports_block; printf 'a%.0s' {1..16} | block 1 17; } | scs 1 | shows 8 83 2 6
     # files of fewer rows than are shown
     : | as_v1 | shows 14 30 0 1
     head -c 32 "$work/plain1.z80" | shows 12 30 0 1

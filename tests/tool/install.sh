@@ -48,6 +48,19 @@ exports() {
 }
 check "the shared library exports the functions that the header declares, and nothing else" exports
 
+# A program that was built with another minor version of 0 finds no library here, since a function may have other parameters.
+sonames() {
+    local version
+    for version in 0.12.3 1.2.3; do
+        make -n install VERSION=$version PREFIX=/absent >"$work/$version"
+    done
+    grep -qxF 'ln -sf libsnapshot.so.0.12.3 "/absent/lib/libsnapshot.so.0.12"' "$work/0.12.3"
+    grep -qF -- '-soname,libsnapshot.so.0.12 ' "$work/0.12.3"
+    grep -qxF 'ln -sf libsnapshot.so.1.2.3 "/absent/lib/libsnapshot.so.1"' "$work/1.2.3"
+    [ "$(cd "$work/usr/lib" && ls -d libsnapshot.so* | paste -s -d ' ')" = "libsnapshot.so $soname libsnapshot.so.$text" ]
+}
+check "the name that programs ask for has the minor number while the major one is 0" sonames
+
 # in_words FILE: text on one line, each run of spaces as one
 in_words() { tr -s ' \n' ' ' <"$1"; }
 

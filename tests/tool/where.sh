@@ -145,6 +145,8 @@ placeless_numbers() {
     : | scs 5 | placeless 40
     : | block 3 | scs 1 | placeless 41
     : | scs 1 | placeless 43
+    { : | block 3; cpu_block; ports_block; } | scs 1 >"$work/whole.scs"
+    patched "$work/mode3.scs" "$work/whole.scs" 51 FF
     placeless 5 <"$work/mode3.scs"
 }
 check "every other number of a file has no place, and its line is as it was" placeless_numbers
