@@ -45,7 +45,10 @@ static size_t open_file(const char *folder, const char *name)
         fprintf(stderr, "%s/%s: cannot be read: %s\n", folder, name, strerror(error));
         exit(1);
     }
-    must(snap_z80_read(file, length, area, sizeof area, header, sizeof header, &offset), name);
+    uint32_t number = snap_z80_read(file, length, area, sizeof area, header, sizeof header, &offset);
+    if (offset != 0)
+        fprintf(stderr, "%s: at byte %llu\n", name, (unsigned long long)offset);
+    must(number, name);
     return length;
 }
 

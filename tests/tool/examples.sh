@@ -48,3 +48,19 @@ missing_or_short() {
     grep -qF "$folder/museum-128k.z80: cannot be read: No such file or directory" "$work/err"
 }
 check "an example tells a missing file from a short one" missing_or_short
+
+# its last bytes are lost: the place is where its last block begins
+cut_file() {
+    local folder=$work/cut status=0 place
+    mkdir -p "$folder"
+    head -c 5000 samples/museum-128k.z80 >"$folder/museum-128k.z80"
+    run_tool 1 info --json "$folder/museum-128k.z80"
+    [ "$(jq .block "$work/out")" -eq 8 ]
+    place=$(jq .offset "$work/out")
+    "$work/corrections" "$folder" 2>"$work/err" || status=$?
+    [ "$status" -eq 1 ]
+    printf 'museum-128k.z80: %s\n' "at byte $place" 'refused, 8: a block is cut short' | diff - "$work/err"
+    "$work/server_slots" "$folder" >"$work/out" || true
+    grep -qF "museum-128k.z80 page 0: refused, 8 at byte $place: a block is cut short" "$work/out"
+}
+check "an example tells where a file is cut" cut_file
