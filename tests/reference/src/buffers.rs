@@ -3,14 +3,21 @@
 
 use crate::machine::{header, own_header, Machine, HEADER};
 use crate::memory::MEMORY;
-use crate::refusal::{number, Refusal, ACCEPTED};
+use crate::refusal::{number_and_offset, FileRefusal, Refusal, ACCEPTED};
 
-/// Gives the machine and the memory of a file, or the first number that refuses it.
-type FileReader = fn(&[u8]) -> Result<(Machine, Vec<u8>), Refusal>;
+/// Gives the machine and the memory of a file, or the first number that refuses it and where.
+type FileReader = fn(&[u8]) -> Result<(Machine, Vec<u8>), FileRefusal>;
 
 /// Reads a file into the area and the header. Refused: a zero area, the blank machine's header, and zeros
-/// where the header is not 86 bytes long.
-pub fn read_bytes(read: FileReader, file: &[u8], area: &mut [u8], header_bytes: &mut [u8]) -> u32 {
+/// where the header is not 86 bytes long. The offset is 0 for every number that is told without one.
+pub fn read_bytes(
+    read: FileReader,
+    file: &[u8],
+    area: &mut [u8],
+    header_bytes: &mut [u8],
+    offset: &mut u64,
+) -> u32 {
+    *offset = 0;
     area.fill(0);
     header_bytes.fill(0);
     if header_bytes.len() != HEADER {
@@ -25,7 +32,9 @@ pub fn read_bytes(read: FileReader, file: &[u8], area: &mut [u8], header_bytes: 
         header_bytes.copy_from_slice(&header(machine));
         area.copy_from_slice(memory);
     }
-    number(&result)
+    let number;
+    (number, *offset) = number_and_offset(&result);
+    number
 }
 
 /// Writes the file of a header and an area, zeros after it. Refused: length 0 and a zero output.

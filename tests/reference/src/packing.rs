@@ -48,7 +48,8 @@ pub const LONGEST_RUN: usize = 255;
 
 #[derive(Debug, Clone, PartialEq, Eq)]
 pub enum UnpackedBytes {
-    Malformed,
+    /// Where the first bad code starts.
+    Malformed(usize),
     Bytes(Vec<u8>),
 }
 
@@ -59,7 +60,9 @@ pub fn unpacked(data: &[u8]) -> UnpackedBytes {
     loop {
         left = match left {
             [] => return UnpackedBytes::Bytes(out),
-            [ED, ED] | [ED, ED, _] | [ED, ED, 0, ..] => return UnpackedBytes::Malformed,
+            [ED, ED] | [ED, ED, _] | [ED, ED, 0, ..] => {
+                return UnpackedBytes::Malformed(data.len() - left.len());
+            }
             [ED, ED, count, byte, after @ ..] => {
                 out.extend(std::iter::repeat_n(*byte, usize::from(*count)));
                 after

@@ -42,6 +42,14 @@ impl Refusal {
     pub fn number(self) -> u32 {
         self as u32
     }
+
+    /// This refusal of a file, with the offset that it is told with.
+    pub fn at(self, offset: usize) -> FileRefusal {
+        FileRefusal {
+            refusal: self,
+            offset,
+        }
+    }
 }
 
 /// The number of a call's result.
@@ -49,5 +57,28 @@ pub fn number<T>(result: &Result<T, Refusal>) -> u32 {
     match result {
         Ok(_) => ACCEPTED,
         Err(refusal) => refusal.number(),
+    }
+}
+
+/// Why a file is refused, and where.
+#[derive(Debug, Clone, Copy, PartialEq, Eq)]
+pub struct FileRefusal {
+    pub refusal: Refusal,
+    /// In the whole file; 0 where the refusal is told without an offset.
+    pub offset: usize,
+}
+
+impl From<Refusal> for FileRefusal {
+    /// A refusal that is told without an offset.
+    fn from(refusal: Refusal) -> FileRefusal {
+        refusal.at(0)
+    }
+}
+
+/// The number of a reader's result, and its offset: 0 where the file is accepted.
+pub fn number_and_offset<T>(result: &Result<T, FileRefusal>) -> (u32, u64) {
+    match result {
+        Ok(_) => (ACCEPTED, 0),
+        Err(file) => (file.refusal.number(), file.offset as u64),
     }
 }

@@ -40,9 +40,9 @@ fn memory_pages(model: Model) -> &'static [usize] {
     }
 }
 
-/// Reads a file into the area and the header; 0 or the number that refuses it.
-pub fn read_bytes(file: &[u8], area: &mut [u8], header: &mut [u8]) -> u32 {
-    buffers::read_bytes(read, file, area, header)
+/// Reads a file into the area and the header; 0 or the number that refuses it, and the offset.
+pub fn read_bytes(file: &[u8], area: &mut [u8], header: &mut [u8], offset: &mut u64) -> u32 {
+    buffers::read_bytes(read, file, area, header, offset)
 }
 
 /// Writes the file of a header and an area; 0 and its length, or the number that refuses it.

@@ -3,6 +3,7 @@
 
 pub mod direct;
 mod read;
+mod stored;
 #[cfg(test)]
 mod tests;
 mod write;
@@ -20,9 +21,9 @@ const PLAIN: u16 = 0xFFFF;
 /// The bytes of a block's length and number.
 const BLOCK_HEAD: usize = 3;
 
-/// Reads a file into the area and the header; 0 or the number that refuses it.
-pub fn read_bytes(file: &[u8], area: &mut [u8], header: &mut [u8]) -> u32 {
-    buffers::read_bytes(read, file, area, header)
+/// Reads a file into the area and the header; 0 or the number that refuses it, and the offset.
+pub fn read_bytes(file: &[u8], area: &mut [u8], header: &mut [u8], offset: &mut u64) -> u32 {
+    buffers::read_bytes(read, file, area, header, offset)
 }
 
 /// Writes the file of a header and an area; 0 and its length, or the number that refuses it.

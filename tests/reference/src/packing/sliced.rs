@@ -6,48 +6,56 @@ use super::{ED, LONGEST_RUN};
 #[derive(Debug, Clone, Copy, PartialEq, Eq)]
 pub enum UnpackAnswer {
     Good,
-    Malformed,
+    /// Where the first bad code starts.
+    Malformed(usize),
     WrongLength,
+}
+
+impl UnpackAnswer {
+    /// Malformed, the bad code being what `src` ends in.
+    pub fn malformed(src: &[u8], code: &[u8]) -> UnpackAnswer {
+        UnpackAnswer::Malformed(src.len() - code.len())
+    }
 }
 
 /// Unpacks into the whole of `dst`; a refused `dst` is left all zero.
 pub fn unpack_into(src: &[u8], dst: &mut [u8]) -> UnpackAnswer {
-    let answer = write_unpacked(src, dst);
+    let answer = write_unpacked(src, src, dst);
     if answer != UnpackAnswer::Good {
         dst.fill(0);
     }
     answer
 }
 
-/// Writes what the source stands for, from the front of `dst` on.
-pub fn write_unpacked(mut src: &[u8], mut dst: &mut [u8]) -> UnpackAnswer {
+/// Writes what `left`, the unread end of the source, stands for, from the front of `dst` on.
+pub fn write_unpacked(src: &[u8], mut left: &[u8], mut dst: &mut [u8]) -> UnpackAnswer {
     loop {
-        let (plain, codes) = src.split_at(plain_length(src));
+        let (plain, codes) = left.split_at(plain_length(left));
         let Some((to, room)) = dst.split_at_mut_checked(plain.len()) else {
-            return without_room(codes);
+            return without_room(src, codes);
         };
         to.copy_from_slice(plain);
         let (count, byte, after) = match codes {
             [] if room.is_empty() => return UnpackAnswer::Good,
             [] => return UnpackAnswer::WrongLength,
             [_, _, count @ 1..=255, byte, after @ ..] => (usize::from(*count), *byte, after),
-            _ => return UnpackAnswer::Malformed,
+            _ => return UnpackAnswer::malformed(src, codes),
         };
         let Some((to, room)) = room.split_at_mut_checked(count) else {
-            return without_room(after);
+            return without_room(src, after);
         };
         to.fill(byte);
-        (src, dst) = (after, room);
+        (left, dst) = (after, room);
     }
 }
 
-/// The answer where the part is too short and `src` is still unread.
-pub fn without_room(mut src: &[u8]) -> UnpackAnswer {
+/// The answer where the part is too short and `left`, the end of the source, is still unread.
+pub fn without_room(src: &[u8], mut left: &[u8]) -> UnpackAnswer {
     loop {
-        src = match &src[plain_length(src)..] {
+        left = match &left[plain_length(left)..] {
             [] => return UnpackAnswer::WrongLength,
             [_, _, 1..=255, _, after @ ..] => after,
-            _ => return UnpackAnswer::Malformed,
+            codes => return UnpackAnswer::malformed(src, codes),
         };
     }
 }

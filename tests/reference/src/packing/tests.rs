@@ -77,7 +77,44 @@ fn p11_malformed() {
         &[ED, ED],
         &[ED, ED, 0],
     ] {
-        assert_eq!(unpacked(code), UnpackedBytes::Malformed);
+        assert_eq!(unpacked(code), UnpackedBytes::Malformed(0));
+    }
+}
+
+/// Packed bytes, and where their first bad code starts.
+const BAD_CODES: [(&[u8], usize); 14] = [
+    (&[0x41, ED, ED], 1),
+    (&[0x41, 0x42, 0x43, ED, ED, 3], 3),
+    (&[ED, ED, 0, ED, ED, 0, 0x41], 0),
+    (&[ED, ED, 5, 0, ED, ED, 0, 0x41], 4),
+    (&[ED, ED, 5, 0, ED, ED, 0, 0x41, ED, ED], 4),
+    // a single ED before other bytes
+    (&[ED, 0, ED, ED, 0, 0x41], 2),
+    (&[ED, 0x41, ED, ED], 2),
+    // a code for ED, after which ED 00 is plain; a code for 237 times ED
+    (&[ED, ED, 5, ED, ED, 0, 0x41, ED, ED, 1], 7),
+    (&[ED, ED, ED, ED, ED, ED, 0, 1], 4),
+    // three ED open a code for 237 times 00
+    (&[ED, ED, ED, 0, ED, ED], 4),
+    (&[ED, ED, ED], 0),
+    (&[ED, ED, 255, 1, ED, ED, 255, 2, ED, ED, 255], 8),
+    (&[ED, ED, 1, 0, 0, 0, ED, ED, ED, ED, ED, ED, 0], 10),
+    (&[0x00, ED, ED, 0x00], 1),
+];
+
+#[test]
+fn the_first_bad_code_is_told() {
+    for (code, place) in BAD_CODES {
+        assert_eq!(unpacked(code), UnpackedBytes::Malformed(place));
+        for plain in [0, 13, 14, 15, 16, 17, 60, 100] {
+            let longer = [&vec![0x41; plain], code].concat();
+            assert_eq!(unpacked(&longer), UnpackedBytes::Malformed(plain + place));
+            for room in [0, 1, plain, plain + 5, 300, 2_000] {
+                let told = UnpackAnswer::Malformed(plain + place);
+                assert_eq!(Ordinary::unpack_into(&longer, &mut vec![1; room]), told);
+                assert_eq!(Wordwise::unpack_into(&longer, &mut vec![1; room]), told);
+            }
+        }
     }
 }
 
@@ -85,7 +122,7 @@ fn check_unpack_into<F: PackingForm>(code: &[u8], length: usize) {
     let mut part = vec![0xA5; length];
     let answer = F::unpack_into(code, &mut part);
     let (expected, bytes) = match unpacked(code) {
-        UnpackedBytes::Malformed => (UnpackAnswer::Malformed, vec![0; length]),
+        UnpackedBytes::Malformed(place) => (UnpackAnswer::Malformed(place), vec![0; length]),
         UnpackedBytes::Bytes(bytes) if bytes.len() == length => (UnpackAnswer::Good, bytes),
         UnpackedBytes::Bytes(_) => (UnpackAnswer::WrongLength, vec![0; length]),
     };
@@ -127,7 +164,7 @@ fn check_form<F: PackingForm>() {
         }
         let full = match unpacked(&codes) {
             UnpackedBytes::Bytes(bytes) => bytes.len(),
-            UnpackedBytes::Malformed => rng.below(600),
+            UnpackedBytes::Malformed(_) => rng.below(600),
         };
         for length in [full, full + 1, full.saturating_sub(1), rng.below(full + 1)] {
             check_unpack_into::<F>(&codes, length);

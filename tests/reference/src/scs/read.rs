@@ -1,21 +1,18 @@
-//! The machine and the 128K memory of an SCS file, or the first number that refuses it.
+//! The machine and the 128K memory of an SCS file, or the first number that refuses it and where.
 
 use super::{memory_pages, CPU_BLOCK, CPU_SIZE, IDENTITY, MEMORY_BLOCK, PORTS_BLOCK, PORTS_SIZE};
 use super::{SCS_BLOCK_HEAD, SCS_START};
 use crate::machine::{Machine, Model};
 use crate::memory::{MEMORY, PAGE};
-use crate::refusal::Refusal;
+use crate::refusal::{FileRefusal, Refusal};
 
-pub fn read(file: &[u8]) -> Result<(Machine, Vec<u8>), Refusal> {
-    if file.len() < SCS_START {
-        return Err(Refusal::ShortFile);
-    }
-    let (start, body) = file.split_at(SCS_START);
+pub fn read(file: &[u8]) -> Result<(Machine, Vec<u8>), FileRefusal> {
+    let start = file.get(..SCS_START).ok_or(Refusal::ShortFile)?;
     let model = model(start).ok_or(Refusal::ScsHeader)?;
-    if body.first() != Some(&MEMORY_BLOCK) {
-        return Err(Refusal::ScsMemoryNotFirst);
+    if file.get(SCS_START) != Some(&MEMORY_BLOCK) {
+        return Err(Refusal::ScsMemoryNotFirst.into());
     }
-    let [cpu, ports, memory] = blocks(body)?;
+    let [cpu, ports, memory] = blocks(file)?;
     let cpu = filled(cpu.ok_or(Refusal::ScsBlockMissing)?, CPU_SIZE);
     let ports = filled(ports.ok_or(Refusal::ScsBlockMissing)?, PORTS_SIZE);
     let machine = machine(model, &cpu, &ports)?;
@@ -33,31 +30,32 @@ fn model(start: &[u8]) -> Option<Model> {
 }
 
 /// The data of the blocks 1, 2 and 3 where they are there.
-fn blocks(mut body: &[u8]) -> Result<[Option<&[u8]>; 3], Refusal> {
+fn blocks(file: &[u8]) -> Result<[Option<&[u8]>; 3], FileRefusal> {
     let mut found = [None; 3];
-    while let Some(&number) = body.first() {
+    let mut head = SCS_START;
+    while let Some(&number) = file.get(head) {
         if number == 0 {
             break;
         }
-        let (data, after) = split_block(body).ok_or(Refusal::CutBlock)?;
+        let data = block_data(&file[head..]).ok_or(Refusal::CutBlock.at(head))?;
         if let CPU_BLOCK | PORTS_BLOCK | MEMORY_BLOCK = number {
             let place = &mut found[usize::from(number) - 1];
             if place.is_some() {
-                return Err(Refusal::ScsBlockTwice);
+                return Err(Refusal::ScsBlockTwice.at(head));
             }
             *place = Some(data);
         }
-        body = after;
+        head += SCS_BLOCK_HEAD + data.len();
     }
     Ok(found)
 }
 
-/// The data of the first block, and what comes after it; none where it is cut.
-fn split_block(body: &[u8]) -> Option<(&[u8], &[u8])> {
-    let (head, rest) = body.split_at_checked(SCS_BLOCK_HEAD)?;
+/// The data of the first block; none where it is cut.
+fn block_data(blocks: &[u8]) -> Option<&[u8]> {
+    let (head, rest) = blocks.split_at_checked(SCS_BLOCK_HEAD)?;
     let size = u32::from_le_bytes([head[1], head[2], head[3], head[4]]);
     // A size that no usize holds is more than any file has.
-    rest.split_at_checked(usize::try_from(size).ok()?)
+    rest.get(..usize::try_from(size).ok()?)
 }
 
 /// So many bytes: zeros where the data are shorter, the rest skipped where they are longer.

@@ -1,9 +1,11 @@
 //! What document 02 says of SCS files, a test for each sentence.
 
+mod offsets;
+
 use super::*;
 use crate::machine::{from_header, header, Machine, Version, HEADER};
 use crate::memory::{images, Rng, MEMORY, PAGE};
-use crate::refusal::number;
+use crate::refusal::number_and_offset;
 
 /// The start of a file with this hardware number.
 fn start(hardware: u8) -> Vec<u8> {
@@ -31,14 +33,18 @@ fn counting_ports() -> Vec<u8> {
     (0x81..0x94).collect()
 }
 
-fn answer(file: &[u8]) -> u32 {
-    let (mut area, mut bytes) = (vec![0xA5; MEMORY], [0x5A; HEADER]);
-    let answer = read_bytes(file, &mut area, &mut bytes);
+fn answer_and_offset(file: &[u8]) -> (u32, u64) {
+    let (mut area, mut bytes, mut offset) = (vec![0xA5; MEMORY], [0x5A; HEADER], 0xA5A5);
+    let answer = read_bytes(file, &mut area, &mut bytes, &mut offset);
     let result = read(file);
-    assert_eq!(answer, number(&result));
+    assert_eq!((answer, offset), number_and_offset(&result));
     let (machine, memory) = result.unwrap_or((Machine::blank(), vec![0; MEMORY]));
     assert!(area == memory && bytes == header(&machine));
-    answer
+    (answer, offset)
+}
+
+fn answer(file: &[u8]) -> u32 {
+    answer_and_offset(file).0
 }
 
 /// The 128K machine of both counting blocks.
@@ -260,11 +266,11 @@ fn numbers_of_writing_and_of_other_buffers() {
     assert_eq!(written(&bytes, MEMORY, SCS_FILE_48K - 1), 22);
     assert_eq!(written(&bytes, MEMORY, SCS_FILE_48K), 0);
     for length in [0, 85, 87] {
-        let (mut area, mut short) = (vec![1; 5], vec![1; length]);
-        assert_eq!(read_bytes(&[], &mut area, &mut short), 20);
-        assert!(area == [0; 5] && short == vec![0; length]);
+        let (mut area, mut short, mut offset) = (vec![1; 5], vec![1; length], 1);
+        assert_eq!(read_bytes(&[], &mut area, &mut short, &mut offset), 20);
+        assert!(area == [0; 5] && short == vec![0; length] && offset == 0);
     }
-    let (mut area, mut short) = (vec![1; MEMORY - 1], vec![1; HEADER]);
-    assert_eq!(read_bytes(&[], &mut area, &mut short), 1);
-    assert!(area == vec![0; MEMORY - 1] && short == bytes);
+    let (mut area, mut short, mut offset) = (vec![1; MEMORY - 1], vec![1; HEADER], 1);
+    assert_eq!(read_bytes(&[], &mut area, &mut short, &mut offset), 1);
+    assert!(area == vec![0; MEMORY - 1] && short == bytes && offset == 0);
 }

@@ -1,16 +1,23 @@
 //! The same calls without a copy, with either form of packing: pages unpacked in the area, blocks packed in
 //! the output.
 
-use super::read::{next_block, split, V1_PAGES};
+use super::read::V1_PAGES;
+use super::stored::{header_of, v1_body, StoredBlock, StoredData};
 use super::{BLOCK_HEAD, PLAIN};
-use crate::machine::{flags, from_header, header, own_header, Machine, Model, Version, HEADER};
+use crate::machine::{from_header, header, own_header, Machine, Model, Version, HEADER};
 use crate::memory::{MEMORY, PAGE};
 use crate::packing::{PackingForm, UnpackAnswer};
-use crate::refusal::{number, Refusal};
+use crate::refusal::{number, number_and_offset, FileRefusal, Refusal};
 
 /// `read_bytes` of the plain form.
-pub fn read_bytes<F: PackingForm>(file: &[u8], area: &mut [u8], header_bytes: &mut [u8]) -> u32 {
+pub fn read_bytes<F: PackingForm>(
+    file: &[u8],
+    area: &mut [u8],
+    header_bytes: &mut [u8],
+    offset: &mut u64,
+) -> u32 {
     if header_bytes.len() != HEADER {
+        *offset = 0;
         area.fill(0);
         header_bytes.fill(0);
         return Refusal::Machine.number();
@@ -24,36 +31,36 @@ pub fn read_bytes<F: PackingForm>(file: &[u8], area: &mut [u8], header_bytes: &m
         }
     };
     header_bytes.copy_from_slice(&header(machine));
-    number(&result)
+    let number;
+    (number, *offset) = number_and_offset(&result);
+    number
 }
 
-fn read_into<F: PackingForm>(file: &[u8], area: &mut [u8]) -> Result<Machine, Refusal> {
+fn read_into<F: PackingForm>(file: &[u8], area: &mut [u8]) -> Result<Machine, FileRefusal> {
     if area.len() != MEMORY {
-        return Err(Refusal::ReadArea);
+        return Err(Refusal::ReadArea.into());
     }
-    let (version, header, body) = split(file)?;
+    let (version, header) = header_of(file)?;
     let machine = from_header(version, header)?;
     area.fill(0);
     match version {
-        Version::V1 => read_v1::<F>(flags(header) & 0x20 != 0, body, area)?,
-        _ => read_blocks::<F>(machine.model, body, area)?,
+        Version::V1 => read_v1::<F>(&v1_body(file, header)?, area)?,
+        _ => read_blocks::<F>(machine.model, file, header.len(), area)?,
     }
     Ok(machine)
 }
 
-fn read_v1<F: PackingForm>(is_packed: bool, body: &[u8], area: &mut [u8]) -> Result<(), Refusal> {
+fn read_v1<F: PackingForm>(body: &StoredData, area: &mut [u8]) -> Result<(), FileRefusal> {
     let mut unpacked;
-    let bytes = if is_packed {
-        let code = body.strip_suffix(&[0x00, 0xED, 0xED, 0x00]);
+    let bytes = if body.is_packed {
         unpacked = vec![0; 3 * PAGE];
-        let code = code.ok_or(Refusal::EndMarker)?;
-        accept(F::unpack_into(code, &mut unpacked))?;
+        unpack::<F>(body, &mut unpacked)?;
         &unpacked[..]
     } else {
-        body
+        body.bytes
     };
     if bytes.len() != 3 * PAGE {
-        return Err(Refusal::UnpackedLength);
+        return Err(body.refused(Refusal::UnpackedLength));
     }
     for (part, page) in bytes.chunks(PAGE).zip(V1_PAGES) {
         area[page * PAGE..][..PAGE].copy_from_slice(part);
@@ -63,35 +70,38 @@ fn read_v1<F: PackingForm>(is_packed: bool, body: &[u8], area: &mut [u8]) -> Res
 
 fn read_blocks<F: PackingForm>(
     model: Model,
-    mut body: &[u8],
+    file: &[u8],
+    start: usize,
     area: &mut [u8],
-) -> Result<(), Refusal> {
+) -> Result<(), FileRefusal> {
     let blocks = Machine::blocks(model);
     let (mut seen, mut count) = ([false; 8], 0);
-    while !body.is_empty() {
-        let block = next_block(body)?;
+    let mut head = start;
+    while head < file.len() {
+        let block = StoredBlock::of(file, head)?;
         let page = block.page(blocks, &seen)?;
         let part = &mut area[page * PAGE..][..PAGE];
-        if block.length == PLAIN {
-            part.copy_from_slice(block.data);
+        if block.data.is_packed {
+            unpack::<F>(&block.data, part)?;
         } else {
-            accept(F::unpack_into(block.data, part))?;
+            part.copy_from_slice(block.data.bytes);
         }
         seen[page] = true;
         count += 1;
-        body = block.after;
+        head = block.data.end();
     }
     if count < blocks.len() {
-        return Err(Refusal::BlockMissing);
+        return Err(Refusal::BlockMissing.into());
     }
     Ok(())
 }
 
-fn accept(answer: UnpackAnswer) -> Result<(), Refusal> {
-    match answer {
+/// Unpacks the data into the whole part.
+fn unpack<F: PackingForm>(data: &StoredData, part: &mut [u8]) -> Result<(), FileRefusal> {
+    match F::unpack_into(data.bytes, part) {
         UnpackAnswer::Good => Ok(()),
-        UnpackAnswer::Malformed => Err(Refusal::Malformed),
-        UnpackAnswer::WrongLength => Err(Refusal::UnpackedLength),
+        UnpackAnswer::Malformed(code) => Err(data.malformed(code)),
+        UnpackAnswer::WrongLength => Err(data.refused(Refusal::UnpackedLength)),
     }
 }
 

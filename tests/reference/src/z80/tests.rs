@@ -1,27 +1,34 @@
 //! The examples of the rules, and the direct forms against the plain one.
 
+mod offsets;
+
 use super::*;
 use crate::machine::{header, Machine, Model, HEADER};
 use crate::memory::{images, Rng, MEMORY, PAGE};
 use crate::packing::{packed, Ordinary, Wordwise};
 
-/// The answer for a file, read into an area of `area` bytes by every form.
-fn answer(file: &[u8], area: usize) -> u32 {
-    let (mut one, mut first) = (vec![0xA5; area], [1; HEADER]);
-    let answer = read_bytes(file, &mut one, &mut first);
+/// The answer for a file and its offset, read into an area of `area` bytes by every form.
+fn answer_and_offset(file: &[u8], area: usize) -> (u32, u64) {
+    let (mut one, mut first, mut offset) = (vec![0xA5; area], [1; HEADER], 0xA5A5);
+    let answer = read_bytes(file, &mut one, &mut first, &mut offset);
     for read in [
         direct::read_bytes::<Ordinary>,
         direct::read_bytes::<Wordwise>,
     ] {
-        let (mut two, mut second) = (vec![0x5A; area], [2; HEADER]);
-        assert_eq!(read(file, &mut two, &mut second), answer);
+        let (mut two, mut second, mut other) = (vec![0x5A; area], [2; HEADER], 0x5A5A);
+        assert_eq!(read(file, &mut two, &mut second, &mut other), answer);
         assert!(one == two && first == second);
+        assert_eq!(other, offset);
     }
     if answer != 0 {
         assert!(one.iter().all(|byte| *byte == 0));
         assert_eq!(first, header(&Machine::blank()));
     }
-    answer
+    (answer, offset)
+}
+
+fn answer(file: &[u8], area: usize) -> u32 {
+    answer_and_offset(file, area).0
 }
 
 /// The file of every form in an output of `room` bytes, or the number.
@@ -83,9 +90,9 @@ fn header_buffers_of_other_lengths() {
             direct::read_bytes::<Ordinary>,
             direct::read_bytes::<Wordwise>,
         ] {
-            let (mut area, mut bytes) = (vec![1; 5], vec![1; length]);
-            assert_eq!(read(&file, &mut area, &mut bytes), 20);
-            assert!(area == [0; 5] && bytes == vec![0; length]);
+            let (mut area, mut bytes, mut offset) = (vec![1; 5], vec![1; length], 1);
+            assert_eq!(read(&file, &mut area, &mut bytes, &mut offset), 20);
+            assert!(area == [0; 5] && bytes == vec![0; length] && offset == 0);
         }
         assert_eq!(written(&vec![0; length], &[], 9), Err(20));
     }

@@ -21,19 +21,20 @@ pub fn unpack_into(src: &[u8], dst: &mut [u8]) -> UnpackAnswer {
 }
 
 /// Writes steps and short runs as whole blocks: what is too much is written over.
-fn write_unpacked(mut src: &[u8], mut dst: &mut [u8]) -> UnpackAnswer {
+fn write_unpacked(src: &[u8], mut dst: &mut [u8]) -> UnpackAnswer {
+    let mut left = src;
     while let (Some(chunk), Some(to)) = (
-        src.first_chunk::<{ STRIDE + 1 }>(),
+        left.first_chunk::<{ STRIDE + 1 }>(),
         dst.first_chunk_mut::<{ STRIDE + SHORT }>(),
     ) {
         to[..STRIDE].copy_from_slice(&chunk[..STRIDE]);
         let plain = find_code(chunk);
         if plain == STRIDE {
-            (src, dst) = (&src[STRIDE..], &mut dst[STRIDE..]);
+            (left, dst) = (&left[STRIDE..], &mut dst[STRIDE..]);
             continue;
         }
-        let [_, _, count @ 1..=255, byte, after @ ..] = &src[plain..] else {
-            return UnpackAnswer::Malformed;
+        let [_, _, count @ 1..=255, byte, after @ ..] = &left[plain..] else {
+            return UnpackAnswer::malformed(src, &left[plain..]);
         };
         let (count, room) = (usize::from(*count), &mut dst[plain..]);
         if count <= SHORT {
@@ -41,11 +42,11 @@ fn write_unpacked(mut src: &[u8], mut dst: &mut [u8]) -> UnpackAnswer {
         } else if count <= room.len() {
             room[..count].fill(*byte);
         } else {
-            return without_room(after);
+            return without_room(src, after);
         }
-        (src, dst) = (after, &mut room[count..]);
+        (left, dst) = (after, &mut room[count..]);
     }
-    write_unpacked_plainly(src, dst)
+    write_unpacked_plainly(src, left, dst)
 }
 
 /// Where ED ED starts in the step, or STRIDE if it does not.
