@@ -4,7 +4,13 @@
 mod c {
     #[link(name = "packing_exports", kind = "static")]
     extern "C" {
-        pub fn packing_unpack(src: *const u8, src_len: usize, dst: *mut u8, dst_len: usize) -> u32;
+        pub fn packing_unpack(
+            src: *const u8,
+            src_len: usize,
+            dst: *mut u8,
+            dst_len: usize,
+            place: *mut u64,
+        ) -> u32;
         pub fn packing_pack(
             src: *const u8,
             src_len: usize,
@@ -16,10 +22,11 @@ mod c {
     }
 }
 
-/// 0 good, 1 malformed, 2 wrong length.
-pub fn unpack(src: &[u8], dst: &mut [u8]) -> u32 {
-    // SAFETY: both slices are valid for their lengths and do not overlap.
-    unsafe { c::packing_unpack(src.as_ptr(), src.len(), dst.as_mut_ptr(), dst.len()) }
+/// 0 good, 1 malformed and the place of the first bad code, 2 wrong length; otherwise the place is 0.
+pub fn unpack(src: &[u8], dst: &mut [u8], place: &mut u64) -> u32 {
+    let (to, room) = (dst.as_mut_ptr(), dst.len());
+    // SAFETY: the slices and `place` are valid and do not overlap.
+    unsafe { c::packing_unpack(src.as_ptr(), src.len(), to, room, place) }
 }
 
 /// 0 and the packed length; 1 too short and a length of 0.

@@ -12,6 +12,7 @@ mod c {
             area_len: usize,
             header: *mut u8,
             header_len: usize,
+            offset: *mut u64,
         ) -> u32;
         pub fn snap_z80_write(
             header: *const u8,
@@ -29,6 +30,7 @@ mod c {
             area_len: usize,
             header: *mut u8,
             header_len: usize,
+            offset: *mut u64,
         ) -> u32;
         pub fn snap_scs_write(
             header: *const u8,
@@ -136,12 +138,13 @@ pub fn version() -> u32 {
     unsafe { c::snap_version() }
 }
 
-/// Reads a `.z80` file into the area and the header; 0 or the number that refuses it.
-pub fn read(file: &[u8], area: &mut [u8], header: &mut [u8]) -> u32 {
+/// Reads a `.z80` file into the area and the header; 0 or the number that refuses it, and the offset.
+pub fn read(file: &[u8], area: &mut [u8], header: &mut [u8], offset: &mut u64) -> u32 {
+    let (from, bytes) = (file.as_ptr(), file.len());
     let (to, room) = (area.as_mut_ptr(), area.len());
     let (machine, length) = (header.as_mut_ptr(), header.len());
-    // SAFETY: the slices are valid for their lengths and do not overlap.
-    unsafe { c::snap_z80_read(file.as_ptr(), file.len(), to, room, machine, length) }
+    // SAFETY: the slices and `offset` are valid and do not overlap.
+    unsafe { c::snap_z80_read(from, bytes, to, room, machine, length, offset) }
 }
 
 /// Writes the v3 file of a header and an area; 0 and its length, or the number that refuses it.
@@ -152,12 +155,13 @@ pub fn write(header: &[u8], area: &[u8], out: &mut [u8], length: &mut u64) -> u3
     unsafe { c::snap_z80_write(machine, header.len(), from, area.len(), to, room, length) }
 }
 
-/// Reads an SCS file into the area and the header; 0 or the number that refuses it.
-pub fn scs_read(file: &[u8], area: &mut [u8], header: &mut [u8]) -> u32 {
+/// Reads an SCS file into the area and the header; 0 or the number that refuses it, and the offset.
+pub fn scs_read(file: &[u8], area: &mut [u8], header: &mut [u8], offset: &mut u64) -> u32 {
+    let (from, bytes) = (file.as_ptr(), file.len());
     let (to, room) = (area.as_mut_ptr(), area.len());
     let (machine, length) = (header.as_mut_ptr(), header.len());
-    // SAFETY: the slices are valid for their lengths and do not overlap.
-    unsafe { c::snap_scs_read(file.as_ptr(), file.len(), to, room, machine, length) }
+    // SAFETY: the slices and `offset` are valid and do not overlap.
+    unsafe { c::snap_scs_read(from, bytes, to, room, machine, length, offset) }
 }
 
 /// Writes the SCS file of a header and an area; 0 and its length, or the number that refuses it.

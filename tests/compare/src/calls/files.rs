@@ -1,13 +1,14 @@
 //! Reading and writing of files of any format.
 
 use super::formats::FileFormat;
+use super::offsets::{KnownRefusal, OffsetCounts, PlaceCounts};
 use super::seen::NUMBERS;
-use super::{answer, expect, note, outcome};
+use super::{answer, cell_difference, expect, note, outcome};
 use crate::lent::LentPart;
 use crate::report::{hex, Group, Outcome};
 use reference::machine::HEADER;
 use reference::memory::{Rng, MEMORY};
-use std::hint::black_box;
+use reference::refusal::ACCEPTED;
 
 /// Makes every lent part dirty before a call and counts the answers given.
 pub struct FileChecker {
@@ -20,7 +21,11 @@ pub struct FileChecker {
     file: Vec<u8>,
     pub reads: [u64; NUMBERS],
     pub writes: [u64; NUMBERS],
+    pub offsets: OffsetCounts,
+    pub places: PlaceCounts,
     pub longest: usize,
+    /// The offset that the last read told.
+    pub last_offset: u64,
     /// The length of the file that the last accepted read was written to.
     pub last_length: usize,
 }
@@ -38,7 +43,10 @@ impl FileChecker {
             file: vec![0; longest],
             reads: [0; NUMBERS],
             writes: [0; NUMBERS],
+            offsets: OffsetCounts::default(),
+            places: PlaceCounts::default(),
             longest: 0,
+            last_offset: 0,
             last_length: 0,
         }
     }
@@ -51,6 +59,36 @@ impl FileChecker {
     /// The same without writing what was read.
     pub fn read_alone(&mut self, group: &mut Group, file: &[u8]) -> Result<u32, String> {
         self.read_once(group, file, MEMORY, HEADER)
+    }
+
+    /// Reads a file whose number and offset the group knows before.
+    pub fn expect_at(
+        &mut self,
+        group: &mut Group,
+        file: &[u8],
+        number: u32,
+        offset: usize,
+    ) -> Outcome {
+        expect(self.read_alone(group, file)?, number)?;
+        match self.last_offset == offset as u64 {
+            true => Ok(()),
+            false => Err(format!(
+                "the reference tells {number} at {}, not {offset}",
+                self.last_offset
+            )),
+        }
+    }
+
+    /// Reads a file of this kind that is refused as the group knows before.
+    pub fn expect_refused(
+        &mut self,
+        group: &mut Group,
+        kind: &'static str,
+        file: &[u8],
+        known: &KnownRefusal,
+    ) -> Outcome {
+        self.expect_at(group, file, known.number, known.offset)?;
+        self.places.add(kind, known)
     }
 
     /// Reads a file into an area and a header of these lengths, and answers the number. An accepted one is written and
@@ -97,23 +135,41 @@ impl FileChecker {
         let mut memory = std::mem::take(&mut self.memory);
         memory.resize(area, 0);
         let mut machine = vec![0xA5; header];
-        let number = (self.format.reference.0)(file, &mut memory, &mut machine);
+        let mut offset = self.fills.word();
+        let number = (self.format.reference.0)(file, &mut memory, &mut machine, &mut offset);
         self.reads[number as usize] += 1;
-        let outcome = self.read_call(file, number, &memory, &machine);
+        self.offsets.add(number, offset);
+        self.last_offset = offset;
+        let outcome = self.read_call(file, (number, offset), &memory, &machine);
         self.memory = memory;
         let tell = |what| format!("read {} into {area} and {header} bytes: {what}", hex(file));
         outcome.map(|()| number).map_err(tell)
     }
 
-    fn read_call(&mut self, file: &[u8], number: u32, memory: &[u8], machine: &[u8]) -> Outcome {
+    /// One call of read, with the offset between two cells that must stay.
+    fn read_call(
+        &mut self,
+        file: &[u8],
+        (number, offset): (u32, u64),
+        memory: &[u8],
+        machine: &[u8],
+    ) -> Outcome {
         let source = LentPart::holding(file, self.fills.word());
         self.area.renew(memory.len(), self.fills.word());
         self.header.renew(machine.len(), self.fills.word());
         let (area, header) = (&mut self.area, &mut self.header);
+        let (guard, dirty) = (self.fills.word(), self.fills.word());
+        let mut cells = [guard, dirty, guard];
         let read = self.format.library.0;
-        let given = read(source.part(), area.part_mut(), header.part_mut());
+        let given = read(
+            source.part(),
+            area.part_mut(),
+            header.part_mut(),
+            &mut cells[1],
+        );
         let mut wrong = Vec::new();
         answer(&mut wrong, given, number);
+        note(&mut wrong, "offset", cell_difference(cells, guard, offset));
         note(&mut wrong, "area", self.area.difference(memory));
         note(&mut wrong, "header", self.header.difference(machine));
         note(&mut wrong, "file", source.difference(file));
@@ -123,7 +179,7 @@ impl FileChecker {
     /// What was read is written, and read again: the same header and memory.
     fn round_trip(&mut self, machine: &[u8], memory: &[u8]) -> Outcome {
         let mut file = self.write_call(machine, memory, self.format.longest)?.1;
-        let outcome = self.read_call(&file, 0, memory, machine);
+        let outcome = self.read_call(&file, (ACCEPTED, 0), memory, machine);
         self.last_length = file.len();
         self.longest = self.longest.max(self.last_length);
         file.clear();
@@ -172,9 +228,7 @@ impl FileChecker {
         let given = (self.format.library.1)(source.part(), area, out, &mut cells[1]);
         let mut wrong = Vec::new();
         answer(&mut wrong, given, number);
-        if black_box(cells) != [dirty, length, dirty] {
-            wrong.push(format!("length {}, should be {length}", cells[1]));
-        }
+        note(&mut wrong, "length", cell_difference(cells, dirty, length));
         note(&mut wrong, "output", self.out.difference(&file));
         note(&mut wrong, "area", self.area.difference(memory));
         note(&mut wrong, "header", source.difference(machine));
@@ -182,6 +236,11 @@ impl FileChecker {
         outcome(wrong).map_err(tell)?;
         file.truncate(length as usize);
         Ok((number, file))
+    }
+
+    /// Prints the counts. Each number was told with an offset exactly where it has one, and with enough different ones.
+    pub fn offsets_seen(&self, least: usize) -> Outcome {
+        self.offsets.all(self.format.with_offset, least)
     }
 
     /// Prints the counts. Reading and writing gave each of their numbers and no other, and enough files were read.

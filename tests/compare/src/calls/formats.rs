@@ -3,7 +3,7 @@
 use crate::ffi_snapshot as ffi;
 use reference::{scs, z80};
 
-pub type ReadCall = fn(&[u8], &mut [u8], &mut [u8]) -> u32;
+pub type ReadCall = fn(&[u8], &mut [u8], &mut [u8], &mut u64) -> u32;
 pub type WriteCall = fn(&[u8], &[u8], &mut [u8], &mut u64) -> u32;
 
 /// Reading and writing by the library and by the reference.
@@ -14,6 +14,8 @@ pub struct FileFormat {
     pub longest: usize,
     /// Every number that reading answers.
     pub numbers: &'static [usize],
+    /// Those that it tells with an offset.
+    pub with_offset: &'static [usize],
 }
 
 pub const Z80_FORMAT: FileFormat = FileFormat {
@@ -21,6 +23,7 @@ pub const Z80_FORMAT: FileFormat = FileFormat {
     reference: (z80::read_bytes, z80::write_bytes),
     longest: z80::LONGEST_FILE,
     numbers: &[0, 1, 2, 3, 4, 5, 6, 7, 8, 9, 10, 11, 12, 13, 14, 20],
+    with_offset: &[8, 9, 10, 11, 12, 14],
 };
 
 pub const SCS_FORMAT: FileFormat = FileFormat {
@@ -28,4 +31,5 @@ pub const SCS_FORMAT: FileFormat = FileFormat {
     reference: (scs::read_bytes, scs::write_bytes),
     longest: scs::SCS_FILE_128K,
     numbers: &[0, 1, 2, 5, 8, 20, 40, 41, 42, 43],
+    with_offset: &[8, 42],
 };

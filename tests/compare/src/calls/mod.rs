@@ -4,10 +4,12 @@ pub mod files;
 pub mod formats;
 pub mod journal;
 pub mod library;
+pub mod offsets;
 pub mod seen;
 pub mod view;
 
 use crate::report::Outcome;
+use std::hint::black_box;
 
 /// Adds what is wrong at a place, if anything.
 pub fn note(wrong: &mut Vec<String>, place: &str, what: Option<String>) {
@@ -17,6 +19,16 @@ pub fn note(wrong: &mut Vec<String>, place: &str, what: Option<String>) {
 pub fn answer(wrong: &mut Vec<String>, given: u32, number: u32) {
     if given != number {
         wrong.push(format!("answer {given}, should be {number}"));
+    }
+}
+
+/// What is wrong with the number in the middle cell or with the guards beside it, if anything, after a call.
+pub fn cell_difference(cells: [u64; 3], guard: u64, number: u64) -> Option<String> {
+    let [before, given, after] = black_box(cells);
+    match given == number {
+        _ if [before, after] != [guard; 2] => Some("a cell beside it was changed".into()),
+        true => None,
+        false => Some(format!("{given}, should be {number}")),
     }
 }
 

@@ -1,5 +1,6 @@
 //! Stored files: the library reads what went in, or gives the expected number.
 
+use compare::calls::cell_difference;
 use compare::calls::formats::ReadCall;
 use compare::ffi_snapshot;
 use compare::lent::LentPart;
@@ -39,7 +40,7 @@ const COMPARED_READERS: [(&str, ReadCall, u64); 2] = [
     ("reference", read_bytes, 7),
 ];
 
-/// The library and the reference read the file alike, and as it was made.
+/// The library and the reference read the file alike, and as it was made. No number of the table has an offset.
 pub fn read(group: &mut Group, dir: &Path, sample: &Sample) -> Outcome {
     let file = fs::read(dir.join(sample.file_name())).map_err(text)?;
     group.inputs += 1;
@@ -49,9 +50,13 @@ pub fn read(group: &mut Group, dir: &Path, sample: &Sample) -> Outcome {
     };
     for (who, read, fill) in COMPARED_READERS {
         let (mut area, mut bytes) = (LentPart::new(MEMORY, fill), LentPart::new(HEADER, fill + 1));
-        let number = read(&file, area.part_mut(), bytes.part_mut());
+        let mut cells = [fill; 3];
+        let number = read(&file, area.part_mut(), bytes.part_mut(), &mut cells[1]);
         if number != sample.number {
             return Err(format!("{who} answers {number}"));
+        }
+        if let Some(what) = cell_difference(cells, fill, 0) {
+            return Err(format!("{who}: offset: {what}"));
         }
         if let Some(what) = area.difference(&memory) {
             return Err(format!("{who}: area: {what}"));

@@ -1,6 +1,7 @@
 //! One call of the library, compared with the reference: answer and every byte.
 
 use crate::ffi_packing;
+use compare::calls::{answer, cell_difference, note, outcome};
 use compare::lent::LentPart;
 use compare::report::{hex, Group, Outcome};
 use reference::memory::Rng;
@@ -13,22 +14,37 @@ pub struct PackingChecker {
     pub pack_answers: [u64; 2],
 }
 
-/// The answer, and the bytes of the part after it.
-pub type Expected = (u32, Vec<u8>);
+/// The answer, the number that goes with it, and the bytes of the part after it.
+pub struct Expected {
+    pub answer: u32,
+    /// The place of the first bad code, or the packed length.
+    pub number: u64,
+    pub part: Vec<u8>,
+}
 
 pub fn expected_unpack(result: &UnpackedBytes, length: usize) -> Expected {
-    match result {
-        UnpackedBytes::Malformed => (1, vec![0; length]),
-        UnpackedBytes::Bytes(bytes) if bytes.len() == length => (0, bytes.clone()),
-        UnpackedBytes::Bytes(_) => (2, vec![0; length]),
+    let (answer, number, part) = match result {
+        UnpackedBytes::Malformed(place) => (1, *place as u64, vec![0; length]),
+        UnpackedBytes::Bytes(bytes) if bytes.len() == length => (0, 0, bytes.clone()),
+        UnpackedBytes::Bytes(_) => (2, 0, vec![0; length]),
+    };
+    Expected {
+        answer,
+        number,
+        part,
     }
 }
 
 fn expected_pack(code: &[u8], length: usize) -> Expected {
     let fits = code.len() <= length;
     let mut part = if fits { code.to_vec() } else { Vec::new() };
+    let number = part.len() as u64;
     part.resize(length, 0);
-    (u32::from(!fits), part)
+    Expected {
+        answer: u32::from(!fits),
+        number,
+        part,
+    }
 }
 
 /// `length`, one shorter, one longer and 0, each once.
@@ -54,7 +70,7 @@ impl PackingChecker {
         let result = unpacked(src);
         let mut lengths = match &result {
             UnpackedBytes::Bytes(bytes) => around(bytes.len()),
-            UnpackedBytes::Malformed => vec![0, 1, src.len()],
+            UnpackedBytes::Malformed(_) => vec![0, 1, src.len()],
         };
         lengths.extend(others);
         let source = LentPart::holding(src, self.fills.word());
@@ -67,18 +83,31 @@ impl PackingChecker {
 
     /// One call of unpack on `source`, which holds `src`.
     pub fn unpack_call(&mut self, source: &LentPart, src: &[u8], expected: &Expected) -> Outcome {
-        let (answer, bytes) = expected;
-        let mut part = LentPart::new(bytes.len(), self.fills.word());
-        let given = ffi_packing::unpack(source.part(), part.part_mut());
+        self.unpack_answers[expected.answer as usize] += 1;
+        self.call("unpack", ffi_packing::unpack, source, src, expected)
+    }
+
+    /// One call on `source`, which holds `src`, with its number between two cells that must stay.
+    fn call(
+        &mut self,
+        name: &str,
+        call: fn(&[u8], &mut [u8], &mut u64) -> u32,
+        source: &LentPart,
+        src: &[u8],
+        expected: &Expected,
+    ) -> Outcome {
+        let room = expected.part.len();
+        let mut part = LentPart::new(room, self.fills.word());
+        let (guard, dirty) = (self.fills.word(), self.fills.word());
+        let mut cells = [guard, dirty, guard];
+        let given = call(source.part(), part.part_mut(), &mut cells[1]);
         let mut wrong = Vec::new();
-        if given != *answer {
-            wrong.push(format!("answer {given}, should be {answer}"));
-        }
-        wrong.extend(part.difference(bytes));
-        let changed = source.difference(src);
-        wrong.extend(changed.map(|what| format!("source: {what}")));
-        self.unpack_answers[*answer as usize] += 1;
-        outcome("unpack", src, bytes.len(), &wrong)
+        answer(&mut wrong, given, expected.answer);
+        let number = cell_difference(cells, guard, expected.number);
+        note(&mut wrong, "number", number);
+        note(&mut wrong, "part", part.difference(&expected.part));
+        note(&mut wrong, "source", source.difference(src));
+        outcome(wrong).map_err(|what| format!("{name} {} into {room} bytes: {what}", hex(src)))
     }
 
     /// Packs into parts of exact length, one shorter, one longer, 0 and `others`,
@@ -89,45 +118,22 @@ impl PackingChecker {
         let source = LentPart::holding(src, self.fills.word());
         let length = ffi_packing::packed_len(source.part());
         if length != code.len() as u64 {
-            let wrong = format!("packed length {length}, should be {}", code.len());
-            return outcome("packed_len", src, 0, &[wrong]);
+            let wrong = format!("{length}, should be {}", code.len());
+            return Err(format!("packed length of {}: {wrong}", hex(src)));
         }
         let mut lengths = around(code.len());
         lengths.extend(others);
         for length in lengths {
-            self.pack_call(&source, src, &code, length)?;
+            let expected = expected_pack(&code, length);
+            self.pack_answers[expected.answer as usize] += 1;
+            self.call("pack", ffi_packing::pack, &source, src, &expected)?;
         }
         let source = LentPart::holding(&code, self.fills.word());
-        self.unpack_call(&source, &code, &(0, src.to_vec()))
+        let expected = Expected {
+            answer: 0,
+            number: 0,
+            part: src.to_vec(),
+        };
+        self.unpack_call(&source, &code, &expected)
     }
-
-    /// One call of pack on `source`, which holds `src`, whose packed form is `code`.
-    fn pack_call(&mut self, source: &LentPart, src: &[u8], code: &[u8], room: usize) -> Outcome {
-        let (answer, bytes) = expected_pack(code, room);
-        let mut part = LentPart::new(room, self.fills.word());
-        let dirty = self.fills.word();
-        let mut cells = [dirty; 3];
-        let given = ffi_packing::pack(source.part(), part.part_mut(), &mut cells[1]);
-        let length = if answer == 0 { code.len() as u64 } else { 0 };
-        let mut wrong = Vec::new();
-        if given != answer {
-            wrong.push(format!("answer {given}, should be {answer}"));
-        }
-        if std::hint::black_box(cells) != [dirty, length, dirty] {
-            wrong.push(format!("length {}, should be {length}", cells[1]));
-        }
-        wrong.extend(part.difference(&bytes));
-        let changed = source.difference(src);
-        wrong.extend(changed.map(|what| format!("source: {what}")));
-        self.pack_answers[answer as usize] += 1;
-        outcome("pack", src, room, &wrong)
-    }
-}
-
-fn outcome(call: &str, src: &[u8], room: usize, wrong: &[String]) -> Outcome {
-    if wrong.is_empty() {
-        return Ok(());
-    }
-    let wrong = wrong.join("; ");
-    Err(format!("{call} {} into {room} bytes: {wrong}", hex(src)))
 }

@@ -27,7 +27,7 @@ const PACKING: [PackExample; 9] = [
     ("P9", &[], &[]),
 ];
 
-/// P10 and P11: the packed bytes and what they stand for, if anything.
+/// P10 and P11: the packed bytes and what they stand for, if anything; the bad codes are the first ones.
 const UNPACKING: [UnpackExample; 3] = [
     ("P10", &[ED, ED, 1, 0x41], Some(&[0x41])),
     ("P11", &[ED, ED, 0, 0x41], None),
@@ -48,7 +48,7 @@ pub fn examples(group: &mut Group, check: &mut PackingChecker) -> Outcome {
         run.map_err(|what| format!("{name}: {what}"))?;
     }
     for (name, code, bytes) in UNPACKING {
-        let expected = bytes.map_or(UnpackedBytes::Malformed, |b| {
+        let expected = bytes.map_or(UnpackedBytes::Malformed(0), |b| {
             UnpackedBytes::Bytes(b.to_vec())
         });
         if unpacked(code) != expected {
@@ -65,22 +65,22 @@ pub fn round_trips(group: &mut Group, rng: &mut Rng) -> Outcome {
     for case in 0..60_000 {
         let data = rng.runs(20, if case % 20 == 0 { 700 } else { 8 });
         group.inputs += 1;
-        let mut length = rng.word();
+        let (mut length, mut place) = (rng.word(), rng.word());
         let room = packed_len(&data) as usize;
         let mut code = LentPart::new(room, rng.word());
         let mut back = LentPart::new(data.len(), rng.word());
         let first = pack(&data, code.part_mut(), &mut length);
-        let second = unpack(code.part(), back.part_mut());
+        let second = unpack(code.part(), back.part_mut(), &mut place);
         let difference = back.difference(&data);
-        if (first, length as usize, second) != (0, room, 0) || difference.is_some() {
-            let answers = format!("answers {first} {second}, lengths {room} {length}");
+        if (first, length as usize, second, place) != (0, room, 0, 0) || difference.is_some() {
+            let answers = format!("answers {first} {second}, lengths {room} {length}, {place}");
             return Err(format!("{}: {answers}, {difference:?}", hex(&data)));
         }
     }
     Ok(())
 }
 
-/// Answer, length and bytes are the same over two different dirty fills.
+/// Answer, number and bytes are the same over two different dirty fills.
 pub fn nothing_before(group: &mut Group, rng: &mut Rng) -> Outcome {
     for case in 0..60_000 {
         let src = match case % 3 {
@@ -91,22 +91,17 @@ pub fn nothing_before(group: &mut Group, rng: &mut Rng) -> Outcome {
         group.inputs += 1;
         let exact = match unpacked(&src) {
             UnpackedBytes::Bytes(bytes) => bytes.len(),
-            UnpackedBytes::Malformed => 9,
+            UnpackedBytes::Malformed(_) => 9,
         };
         for room in [exact, exact + 1, packed(&src).len(), rng.below(300)] {
             let fill = rng.word();
             let run = |fill: u64| {
                 let (mut one, mut two) = (LentPart::new(room, fill), LentPart::new(room, !fill));
-                let mut length = fill;
-                let unpack = unpack(&src, one.part_mut());
+                let (mut place, mut length) = (fill, !fill);
+                let unpack = unpack(&src, one.part_mut(), &mut place);
                 let pack = pack(&src, two.part_mut(), &mut length);
-                (
-                    unpack,
-                    one.part().to_vec(),
-                    pack,
-                    two.part().to_vec(),
-                    length,
-                )
+                let parts = (one.part().to_vec(), two.part().to_vec());
+                ((unpack, place), (pack, length), parts)
             };
             let (first, second) = (run(fill), run(!fill));
             if first != second {
