@@ -1,7 +1,8 @@
-//! What the comparisons use: checked calls of the library, lent parts between guard bytes, random machines, choices of
-//! faults, and the report.
+//! What the comparisons use: checked calls of the library, lent parts between guard bytes, random machines, packed data
+//! with a bad code, choices of faults, and the report.
 #![deny(unsafe_code)]
 
+pub mod bad_codes;
 pub mod calls;
 pub mod choice;
 pub mod ffi_snapshot;

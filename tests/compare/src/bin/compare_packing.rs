@@ -8,7 +8,7 @@ mod packing;
 
 use compare::report::Report;
 use packing::checks::PackingChecker;
-use packing::{general_groups, pack_groups, unpack_groups};
+use packing::{general_groups, pack_groups, place_groups, unpack_groups};
 use reference::memory::Rng;
 use std::process::ExitCode;
 
@@ -41,6 +41,16 @@ fn main() -> ExitCode {
     report.group("unpack past 2^32 bytes", |g| {
         unpack_groups::huge_sum(g, check)
     });
+    report.group("a bad code at every place", |g| {
+        place_groups::every_code(g, check, rng)
+    });
+    report.group("the first of two bad codes", |g| {
+        place_groups::two_codes(g, check, rng)
+    });
+    report.group("bad codes far behind", |g| {
+        place_groups::far_codes(g, check, rng)
+    });
+    report.group("no bad code", |g| place_groups::no_codes(g, check, rng));
     report.group("pack every short list", |g| {
         pack_groups::all_lists(g, check)
     });

@@ -9,14 +9,19 @@ use compare::calls::formats::Z80_FORMAT;
 use compare::report::{Group, Outcome, Report};
 use std::process::ExitCode;
 use z80::maker::Maker;
-use z80::{block_groups, fault_groups, header_groups, order_groups, write_groups};
+use z80::place_groups::TOLD_PLACES;
+use z80::{block_groups, code_groups, fault_groups, head_groups, header_groups};
+use z80::{order_groups, place_groups, write_groups};
 
 /// Generated files that a run must at least read.
 const LEAST_FILES: u64 = 200_000;
 
 type Run = fn(&mut Group, &mut FileChecker, &mut Maker) -> Outcome;
 
-const GROUPS: [(&str, Run); 23] = [
+/// Different offsets that each number with an offset must at least have.
+const LEAST_OFFSETS: usize = 100;
+
+const GROUPS: [(&str, Run); 36] = [
     ("examples", |g, c, _| header_groups::examples(g, c)),
     ("every mode", header_groups::modes),
     ("every value of byte 12", |g, c, m| {
@@ -40,6 +45,19 @@ const GROUPS: [(&str, Run); 23] = [
     ("order in the header", order_groups::in_the_header),
     ("order in a block", order_groups::in_a_block),
     ("order in v1", order_groups::in_v1),
+    ("9 at every head", head_groups::foreign_numbers),
+    ("10 at every head", head_groups::numbers_twice),
+    ("12 at every head", head_groups::wrong_lengths),
+    ("8 at every head", head_groups::cut_blocks),
+    ("12 of v1", head_groups::v1_lengths),
+    ("14 of v1", head_groups::v1_markers),
+    ("11 in every block", code_groups::blocks),
+    ("11 in v1", code_groups::v1_bodies),
+    ("11 at the edges of a look", code_groups::looks),
+    ("11 before other faults", code_groups::before_others),
+    ("no offset", place_groups::without_offset),
+    ("no offset in other buffers", place_groups::other_buffers),
+    ("no offset for the header", place_groups::header_first),
     ("write into outputs", write_groups::rooms),
     ("write whole images", write_groups::whole_images),
     ("write every header byte", write_groups::every_header_byte),
@@ -58,5 +76,7 @@ fn main() -> ExitCode {
     });
     report.group("the longest file", |g| write_groups::longest_file(g, check));
     report.fact("every number seen", check.numbers_seen(LEAST_FILES));
+    report.fact("every offset seen", check.offsets_seen(LEAST_OFFSETS));
+    report.fact("every place seen", check.places.all(&TOLD_PLACES));
     report.finish()
 }

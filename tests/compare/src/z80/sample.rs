@@ -3,6 +3,9 @@
 use super::coding::Coding;
 use reference::machine::{Model, Version};
 
+/// The bytes of a block's length and number.
+pub const Z80_BLOCK_HEAD: usize = 3;
+
 #[derive(Clone)]
 pub struct CodedBlock {
     pub number: u8,
@@ -38,6 +41,25 @@ impl FileParts {
         file.extend(&self.tail);
         file.truncate(self.cut.unwrap_or(file.len()));
         file
+    }
+
+    /// Where each block's head stands in the file, and where the last block ends.
+    pub fn borders(&self) -> Vec<usize> {
+        let mut borders = vec![self.header.len()];
+        for block in &self.blocks {
+            let before = borders[borders.len() - 1];
+            borders.push(before + Z80_BLOCK_HEAD + block.coding.data.len());
+        }
+        borders
+    }
+
+    /// The kind of file that places are counted for.
+    pub fn kind(&self) -> &'static str {
+        match self.version {
+            Version::V1 => "v1",
+            Version::V2 => "v2",
+            Version::V3 => "v3",
+        }
     }
 
     /// A v1 file whose byte 12 says packed.

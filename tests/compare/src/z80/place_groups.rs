@@ -1,0 +1,115 @@
+//! The files of the groups that know where a file is refused, what those groups must have told, and the numbers that
+//! are told without an offset.
+
+use super::coding::Coding;
+use super::faults::{applies, damage, FAULT_NUMBERS};
+use super::maker::{Maker, VERSIONS};
+use super::sample::FileParts;
+use compare::calls::expect;
+use compare::calls::files::FileChecker;
+use compare::calls::offsets::{OffsetPlace, MANY_PLACES, ONE_PLACE};
+use compare::report::{Group, Outcome};
+use reference::machine::{Version, HEADER};
+use reference::memory::{MEMORY, PAGE};
+
+/// Files with blocks: both versions with both models.
+const BLOCK_FILES: [(Version, u8); 4] = [
+    (Version::V2, 1),
+    (Version::V2, 4),
+    (Version::V3, 3),
+    (Version::V3, 5),
+];
+
+/// The files of a group: a quarter of them is of each kind.
+pub const FILES_OF_A_GROUP: usize = 80;
+
+/// The numbers with an offset in each version, and where each must be told.
+pub const TOLD_PLACES: [(&str, u32, &[OffsetPlace]); 13] = [
+    ("v1", 11, MANY_PLACES),
+    ("v1", 12, ONE_PLACE),
+    ("v1", 14, ONE_PLACE),
+    ("v2", 8, MANY_PLACES),
+    ("v2", 9, MANY_PLACES),
+    ("v2", 10, MANY_PLACES),
+    ("v2", 11, MANY_PLACES),
+    ("v2", 12, MANY_PLACES),
+    ("v3", 8, MANY_PLACES),
+    ("v3", 9, MANY_PLACES),
+    ("v3", 10, MANY_PLACES),
+    ("v3", 11, MANY_PLACES),
+    ("v3", 12, MANY_PLACES),
+];
+
+/// A good file of the next kind. In every other round its pages are stored as they are, so that places are far apart.
+pub fn any_block_file(maker: &mut Maker, case: usize) -> FileParts {
+    let (version, mode) = BLOCK_FILES[case % BLOCK_FILES.len()];
+    let mut sample = maker.of_mode(version, mode);
+    if case / BLOCK_FILES.len() % 2 == 0 {
+        for block in &mut sample.blocks {
+            block.coding = Coding::plain(&vec![maker.rng.byte(); PAGE]);
+        }
+    }
+    sample
+}
+
+/// Accepted files, and refusals that are told without an offset, of every version.
+pub fn without_offset(group: &mut Group, check: &mut FileChecker, maker: &mut Maker) -> Outcome {
+    for version in VERSIONS {
+        for number in [0, 2, 3, 4, 5, 6, 7, 13] {
+            for _ in 0..60 {
+                let mut sample = maker.sample(version);
+                if number != 0 && !applies(number, &sample) {
+                    break;
+                }
+                if number != 0 {
+                    damage(number, &mut sample, maker);
+                }
+                check.expect_at(group, &sample.bytes(), number, 0)?;
+            }
+        }
+    }
+    Ok(())
+}
+
+/// Files of every fault, read into an area or a header of another length: no offset.
+pub fn other_buffers(group: &mut Group, check: &mut FileChecker, maker: &mut Maker) -> Outcome {
+    for number in FAULT_NUMBERS {
+        for case in 0..40 {
+            let mut sample = maker.any();
+            if !applies(number, &sample) {
+                continue;
+            }
+            damage(number, &mut sample, maker);
+            let (area, header, due) = match case % 4 {
+                0 => (MEMORY - 1, HEADER, 1),
+                1 => (MEMORY + 1, HEADER, 1),
+                2 => (MEMORY, HEADER - 1, 20),
+                _ => (0, HEADER + 1, 20),
+            };
+            let answer = check.read_into(group, &sample.bytes(), area, header)?;
+            expect(answer, due)?;
+            if check.last_offset != 0 {
+                return Err(format!("{due} is told with {}", check.last_offset));
+            }
+        }
+    }
+    Ok(())
+}
+
+/// A fault in the header and another one in a block or the body: no offset.
+pub fn header_first(group: &mut Group, check: &mut FileChecker, maker: &mut Maker) -> Outcome {
+    for first in 3..=7 {
+        for second in 8..=14 {
+            for _ in 0..20 {
+                let mut sample = maker.any();
+                if !applies(first, &sample) || !applies(second, &sample) {
+                    continue;
+                }
+                damage(second, &mut sample, maker);
+                damage(first, &mut sample, maker);
+                check.expect_at(group, &sample.bytes(), first, 0)?;
+            }
+        }
+    }
+    Ok(())
+}
