@@ -8,8 +8,9 @@ use compare::calls::files::FileChecker;
 use compare::calls::formats::SCS_FORMAT;
 use compare::report::{Group, Outcome, Report};
 use scs::maker::ScsMaker;
+use scs::place_groups::SCS_TOLD_PLACES;
 use scs::{block_groups, cut_groups, fault_groups, field_groups};
-use scs::{size_groups, start_groups, write_groups};
+use scs::{place_groups, size_groups, start_groups, write_groups};
 use std::process::ExitCode;
 
 /// Generated files that a run must at least read.
@@ -17,7 +18,10 @@ const LEAST_SCS_FILES: u64 = 200_000;
 
 type Run = fn(&mut Group, &mut FileChecker, &mut ScsMaker) -> Outcome;
 
-const GROUPS: [(&str, Run); 28] = [
+/// Different offsets that each number with an offset must at least have.
+const LEAST_OFFSETS: usize = 100;
+
+const GROUPS: [(&str, Run); 32] = [
     ("examples", |g, c, _| start_groups::examples(g, c)),
     ("every hardware number", start_groups::hardware),
     ("every byte of the start", start_groups::every_byte),
@@ -42,6 +46,10 @@ const GROUPS: [(&str, Run); 28] = [
     ("one damaged place", fault_groups::single),
     ("several damaged places", fault_groups::several),
     ("two damaged blocks", fault_groups::in_two_blocks),
+    ("8 at every head", place_groups::cut_blocks),
+    ("42 at every head", place_groups::blocks_twice),
+    ("no offset", place_groups::without_offset),
+    ("no offset in other buffers", place_groups::other_buffers),
     ("write into outputs", write_groups::rooms),
     ("write whole images", write_groups::whole_images),
     ("write every header byte", write_groups::every_header_byte),
@@ -60,5 +68,7 @@ fn main() -> ExitCode {
     });
     report.group("the blank machine", |g| write_groups::blank(g, check));
     report.fact("every number seen", check.numbers_seen(LEAST_SCS_FILES));
+    report.fact("every offset seen", check.offsets_seen(LEAST_OFFSETS));
+    report.fact("every place seen", check.places.all(&SCS_TOLD_PLACES));
     report.finish()
 }

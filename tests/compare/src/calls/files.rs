@@ -70,12 +70,13 @@ impl FileChecker {
         offset: usize,
     ) -> Outcome {
         expect(self.read_alone(group, file)?, number)?;
-        match self.last_offset == offset as u64 {
-            true => Ok(()),
-            false => Err(format!(
-                "the reference tells {number} at {}, not {offset}",
-                self.last_offset
-            )),
+        self.expect_offset(offset)
+    }
+
+    fn expect_offset(&self, offset: usize) -> Outcome {
+        match self.last_offset {
+            told if told == offset as u64 => Ok(()),
+            told => Err(format!("the reference tells offset {told}, not {offset}")),
         }
     }
 
@@ -122,6 +123,18 @@ impl FileChecker {
             }
         }
         Ok(())
+    }
+
+    /// Reads any file into an area or a header of another length, by the case: 1 or 20, and no offset.
+    pub fn expect_no_offset(&mut self, group: &mut Group, file: &[u8], case: usize) -> Outcome {
+        let (area, header, due) = match case % 4 {
+            0 => (MEMORY - 1, HEADER, 1),
+            1 => (MEMORY + 1, HEADER, 1),
+            2 => (MEMORY, HEADER - 1, 20),
+            _ => (0, HEADER + 1, 20),
+        };
+        expect(self.read_once(group, file, area, header)?, due)?;
+        self.expect_offset(0)
     }
 
     fn read_once(

@@ -79,9 +79,9 @@ pub fn ends(group: &mut Group, check: &mut FileChecker, maker: &mut ScsMaker) ->
                 let mut sample = maker.any();
                 sample.tail = maker.rng.bytes(length);
                 sample.tail[0] = number;
-                let due = if number == 0 { 0 } else { 8 };
-                let answer = check.read_alone(group, &sample.bytes())?;
-                expect(answer, due)?;
+                let end = sample.borders()[sample.blocks.len()];
+                let (due, offset) = if number == 0 { (0, 0) } else { (8, end) };
+                check.expect_at(group, &sample.bytes(), due, offset)?;
             }
         }
     }

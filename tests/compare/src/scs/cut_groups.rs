@@ -2,31 +2,29 @@
 
 use super::maker::{ScsMaker, MODELS};
 use super::sample::{ScsFileParts, SizedBlock};
-use compare::calls::expect;
 use compare::calls::files::FileChecker;
 use compare::report::{Group, Outcome};
 use reference::machine::Model;
 use reference::memory::PAGE;
 use reference::scs::{CPU_BLOCK, MEMORY_BLOCK, PORTS_BLOCK, SCS_START};
 
-/// The number of a good file without what stands from this place on.
-fn cut_number(sample: &ScsFileParts, end: usize) -> u32 {
+/// The number and the offset of a good file without what stands from this place on.
+fn cut_number(sample: &ScsFileParts, end: usize) -> (u32, usize) {
     let borders = sample.borders();
     let last = borders[borders.len() - 1];
     match end {
-        _ if end < SCS_START => 2,
-        SCS_START => 43,
-        _ if end > last => 0,
-        _ => match borders.iter().position(|border| *border == end) {
-            None => 8,
-            Some(count) => {
-                let has = |number| sample.blocks[..count].iter().any(|b| b.number == number);
-                match has(CPU_BLOCK) && has(PORTS_BLOCK) {
-                    true => 0,
-                    false => 41,
-                }
+        _ if end < SCS_START => (2, 0),
+        SCS_START => (43, 0),
+        _ if end > last => (0, 0),
+        _ => {
+            let count = borders.partition_point(|border| *border < end);
+            let has = |number| sample.blocks[..count].iter().any(|b| b.number == number);
+            match borders[count] == end {
+                false => (8, borders[count - 1]),
+                true if has(CPU_BLOCK) && has(PORTS_BLOCK) => (0, 0),
+                true => (41, 0),
             }
-        },
+        }
     }
 }
 
@@ -34,8 +32,8 @@ fn cut_number(sample: &ScsFileParts, end: usize) -> u32 {
 fn every_cut(group: &mut Group, check: &mut FileChecker, sample: &ScsFileParts) -> Outcome {
     let file = sample.bytes();
     for end in 0..=file.len() {
-        let answer = check.read_alone(group, &file[..end])?;
-        expect(answer, cut_number(sample, end))?;
+        let (number, offset) = cut_number(sample, end);
+        check.expect_at(group, &file[..end], number, offset)?;
     }
     Ok(())
 }

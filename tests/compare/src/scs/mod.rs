@@ -6,6 +6,7 @@ pub mod fault_groups;
 pub mod faults;
 pub mod field_groups;
 pub mod maker;
+pub mod place_groups;
 pub mod sample;
 pub mod size_groups;
 pub mod start_groups;

@@ -74,7 +74,7 @@ fn with_skipped(maker: &mut ScsMaker) -> ScsFileParts {
     sample
 }
 
-/// Each block with every size that is too large: 8.
+/// Each block with every size that is too large: 8 at its head.
 pub fn near_2_to_32(group: &mut Group, check: &mut FileChecker, maker: &mut ScsMaker) -> Outcome {
     for _ in 0..6 {
         let sample = with_skipped(maker);
@@ -86,8 +86,7 @@ pub fn near_2_to_32(group: &mut Group, check: &mut FileChecker, maker: &mut ScsM
             for size in sizes {
                 let mut damaged = sample.clone();
                 damaged.blocks[place].size = size;
-                let answer = check.read_alone(group, &damaged.bytes())?;
-                expect(answer, 8)?;
+                check.expect_at(group, &damaged.bytes(), 8, head)?;
             }
         }
     }
@@ -104,9 +103,10 @@ pub fn every_size(group: &mut Group, check: &mut FileChecker, maker: &mut ScsMak
             for size in 0..=left + 1 {
                 let mut damaged = sample.clone();
                 damaged.blocks[place].size = size;
-                let answer = check.read_alone(group, &damaged.bytes())?;
-                if size == left + 1 {
-                    expect(answer, 8)?;
+                let file = damaged.bytes();
+                match size == left + 1 {
+                    true => check.expect_at(group, &file, 8, head)?,
+                    false => drop(check.read_alone(group, &file)?),
                 }
             }
         }

@@ -5,12 +5,11 @@ use super::coding::Coding;
 use super::faults::{applies, damage, FAULT_NUMBERS};
 use super::maker::{Maker, VERSIONS};
 use super::sample::FileParts;
-use compare::calls::expect;
 use compare::calls::files::FileChecker;
 use compare::calls::offsets::{OffsetPlace, MANY_PLACES, ONE_PLACE};
 use compare::report::{Group, Outcome};
-use reference::machine::{Version, HEADER};
-use reference::memory::{MEMORY, PAGE};
+use reference::machine::Version;
+use reference::memory::PAGE;
 
 /// Files with blocks: both versions with both models.
 const BLOCK_FILES: [(Version, u8); 4] = [
@@ -80,17 +79,7 @@ pub fn other_buffers(group: &mut Group, check: &mut FileChecker, maker: &mut Mak
                 continue;
             }
             damage(number, &mut sample, maker);
-            let (area, header, due) = match case % 4 {
-                0 => (MEMORY - 1, HEADER, 1),
-                1 => (MEMORY + 1, HEADER, 1),
-                2 => (MEMORY, HEADER - 1, 20),
-                _ => (0, HEADER + 1, 20),
-            };
-            let answer = check.read_into(group, &sample.bytes(), area, header)?;
-            expect(answer, due)?;
-            if check.last_offset != 0 {
-                return Err(format!("{due} is told with {}", check.last_offset));
-            }
+            check.expect_no_offset(group, &sample.bytes(), case)?;
         }
     }
     Ok(())
