@@ -73,8 +73,13 @@ impl ScsWork {
                 &mut *self.area.borrow_mut(),
                 &mut *self.machine.borrow_mut(),
             );
-            let file = black_box(&self.file);
-            black_box(ffi::scs_read(file, black_box(area), black_box(machine)));
+            let (file, mut offset) = (black_box(&self.file), 0);
+            black_box(ffi::scs_read(
+                file,
+                black_box(area),
+                black_box(machine),
+                &mut offset,
+            ));
         })
     }
 

@@ -6,7 +6,7 @@ use super::{Direction, StoredFile, Timed, Who};
 use crate::ffi_packing;
 use bench::timing::Contender;
 use reference::memory::{Rng, PAGE};
-use reference::packing::{pack_into, packed, unpack_into, wordwise, UnpackAnswer};
+use reference::packing::{pack_into, packed, unpack_into, wordwise, UnpackAnswer, ED};
 use std::cell::RefCell;
 use std::hint::black_box;
 
@@ -29,9 +29,10 @@ const PACKERS: [(Who, Pack); 3] = [
 ];
 
 fn library_unpack(block: &[u8], part: &mut [u8]) -> UnpackAnswer {
-    match ffi_packing::unpack(block, part) {
+    let mut place = 0;
+    match ffi_packing::unpack(block, part, &mut place) {
         0 => UnpackAnswer::Good,
-        1 => UnpackAnswer::Malformed,
+        1 => UnpackAnswer::Malformed(place as usize),
         _ => UnpackAnswer::WrongLength,
     }
 }
@@ -57,6 +58,9 @@ pub fn check(stored: &StoredFile) {
             let mut part = vec![rubbish; PAGE];
             assert_eq!(unpack(block, &mut part), UnpackAnswer::Good);
             assert!(part == page, "unpacked pages differ");
+            let damaged = [block, &[0, ED, ED, 0, 0]].concat();
+            let told = UnpackAnswer::Malformed(block.len() + 1);
+            assert_eq!(unpack(&damaged, &mut part), told);
         }
     }
     for page in stored.pages() {

@@ -10,7 +10,7 @@ use reference::z80::{direct, LONGEST_FILE};
 use std::cell::RefCell;
 use std::hint::black_box;
 
-type ReadCall = fn(&[u8], &mut [u8], &mut [u8]) -> u32;
+type ReadCall = fn(&[u8], &mut [u8], &mut [u8], &mut u64) -> u32;
 type WriteCall = fn(&[u8], &[u8], &mut [u8], &mut u64) -> u32;
 
 const READERS: [(Who, ReadCall); 3] = [
@@ -30,8 +30,13 @@ pub fn check(stored: &StoredFile) {
     let (header, memory) = (&stored.header[..], &stored.memory[..]);
     for (rubbish, (_, read)) in (1..).zip(READERS) {
         let (mut area, mut machine) = (vec![rubbish; MEMORY], vec![rubbish; HEADER]);
-        assert_eq!(read(stored.file(), &mut area, &mut machine), 0);
+        let mut offset = rubbish.into();
+        let answer = read(stored.file(), &mut area, &mut machine, &mut offset);
+        assert_eq!((answer, offset), (0, 0));
         assert!(area == memory && machine == header, "files read differ");
+        let damaged = [stored.file(), &[0]].concat();
+        let answer = read(&damaged, &mut area, &mut machine, &mut offset);
+        assert_eq!((answer, offset), (8, stored.file().len() as u64));
     }
     let (mut file, mut length) = (vec![0; LONGEST_FILE], 0);
     let plain = reference::z80::write_bytes(header, memory, &mut file, &mut length);
@@ -50,9 +55,10 @@ type ReadBuffers = RefCell<(Vec<u8>, Vec<u8>)>;
 fn reader<'a>(files: &'a [StoredFile], to: &'a ReadBuffers, call: ReadCall) -> Contender<'a> {
     Box::new(move || {
         let (area, header) = &mut *to.borrow_mut();
+        let mut offset = 0;
         for stored in files {
             let file = black_box(stored.file());
-            black_box(call(file, black_box(area), black_box(header)));
+            black_box(call(file, black_box(area), black_box(header), &mut offset));
         }
     })
 }
