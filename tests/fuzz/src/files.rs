@@ -43,6 +43,7 @@ impl FormatTarget {
         let number = checker.read_into(calls, file, picked.area, picked.header)?;
         let case = picked.case(number, (self.case_of)(file));
         mark(self.rows.read, number, case);
+        mark(self.rows.offset, number, offset_case(checker.last_offset));
         if number != 0 {
             return Ok(());
         }
@@ -78,6 +79,12 @@ impl FormatTarget {
         mark(self.rows.write, number, case);
         Ok(())
     }
+}
+
+/// Offsets that are about as far from the start: 0, those below 64, below 256, and so on.
+fn offset_case(offset: u64) -> u8 {
+    let bits = u64::BITS - offset.leading_zeros();
+    (bits as u8).saturating_sub(4).div_ceil(2)
 }
 
 /// The version of a `.z80` file, and whether its byte 12 is the 255 that counts as 1.

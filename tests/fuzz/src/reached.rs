@@ -3,14 +3,23 @@
 use compare::calls::seen::{CountedFunction, NUMBERS};
 use std::sync::atomic::{AtomicU8, Ordering};
 
-/// The rows of cells: reading and writing of each format, and the functions of the log.
-pub const Z80_ROWS: FormatRows = FormatRows { read: 0, write: 1 };
-pub const SCS_ROWS: FormatRows = FormatRows { read: 9, write: 10 };
-const ROWS: usize = 11;
+/// The rows of cells: reading and writing of each format with the offsets told, and the functions of the log.
+pub const Z80_ROWS: FormatRows = FormatRows {
+    read: 0,
+    write: 1,
+    offset: 11,
+};
+pub const SCS_ROWS: FormatRows = FormatRows {
+    read: 9,
+    write: 10,
+    offset: 12,
+};
+const ROWS: usize = 13;
 
 pub struct FormatRows {
     pub read: usize,
     pub write: usize,
+    pub offset: usize,
 }
 
 pub fn row(function: CountedFunction) -> usize {

@@ -1,5 +1,5 @@
 //! replay_corpus [FOLDER..]: runs every file of the folders (tests/fuzz/corpus) as an input of the fuzz target. All of
-//! them together reach every number.
+//! them together reach every number, and each that has an offset at several places.
 #![forbid(unsafe_code)]
 
 use compare::report::{Group, Outcome, Report};
@@ -11,6 +11,9 @@ use std::process::ExitCode;
 /// Inputs of a corpus that is worth its name, and calls in them that the model follows.
 const LEAST_INPUTS: u64 = 200;
 const LEAST_MODELLED: u64 = 2_000;
+
+/// Different offsets that each number with an offset must at least have.
+const LEAST_CORPUS_OFFSETS: usize = 3;
 
 /// The files of the folders by name, each with its bytes.
 fn inputs(folders: &[String]) -> Result<Vec<(String, Vec<u8>)>> {
@@ -55,8 +58,12 @@ fn main() -> Result<ExitCode> {
         report.group(&name, |group| run(group, target, mode, &all));
     }
     for (name, format) in [".z80", "SCS"].into_iter().zip(&target.formats) {
-        let name = format!("every number of {name} files");
-        report.fact(&name, format.checker.numbers_seen(1));
+        let (numbers, offsets) = (
+            format!("every number of {name} files"),
+            format!("offsets of {name} files"),
+        );
+        report.fact(&numbers, format.checker.numbers_seen(1));
+        report.fact(&offsets, format.checker.offsets_seen(LEAST_CORPUS_OFFSETS));
     }
     report.fact("every number of the log", target.journal.seen.all(1));
     let modelled = match target.modelled {
