@@ -6,6 +6,7 @@ mod scs;
 
 use compare::calls::files::FileChecker;
 use compare::calls::formats::SCS_FORMAT;
+use compare::calls::offsets::LEAST_OFFSETS;
 use compare::report::{Group, Outcome, Report};
 use scs::maker::ScsMaker;
 use scs::place_groups::SCS_TOLD_PLACES;
@@ -17,9 +18,6 @@ use std::process::ExitCode;
 const LEAST_SCS_FILES: u64 = 200_000;
 
 type Run = fn(&mut Group, &mut FileChecker, &mut ScsMaker) -> Outcome;
-
-/// Different offsets that each number with an offset must at least have.
-const LEAST_OFFSETS: usize = 100;
 
 const GROUPS: [(&str, Run); 32] = [
     ("examples", |g, c, _| start_groups::examples(g, c)),

@@ -6,6 +6,7 @@ mod z80;
 
 use compare::calls::files::FileChecker;
 use compare::calls::formats::Z80_FORMAT;
+use compare::calls::offsets::LEAST_OFFSETS;
 use compare::report::{Group, Outcome, Report};
 use std::process::ExitCode;
 use z80::maker::Maker;
@@ -17,9 +18,6 @@ use z80::{order_groups, place_groups, write_groups};
 const LEAST_FILES: u64 = 200_000;
 
 type Run = fn(&mut Group, &mut FileChecker, &mut Maker) -> Outcome;
-
-/// Different offsets that each number with an offset must at least have.
-const LEAST_OFFSETS: usize = 100;
 
 const GROUPS: [(&str, Run); 36] = [
     ("examples", |g, c, _| header_groups::examples(g, c)),

@@ -5,6 +5,9 @@ use crate::report::Outcome;
 use std::collections::{BTreeMap, BTreeSet};
 use std::ops::RangeInclusive;
 
+/// Different offsets that a comparison of generated files must at least have of each number that has one.
+pub const LEAST_OFFSETS: usize = 100;
+
 /// The different offsets that each number was told with.
 #[derive(Default)]
 pub struct OffsetCounts(BTreeMap<usize, BTreeSet<u64>>);

@@ -43,7 +43,7 @@ pub const TOLD_PLACES: [(&str, u32, &[OffsetPlace]); 13] = [
 pub fn any_block_file(maker: &mut Maker, case: usize) -> FileParts {
     let (version, mode) = BLOCK_FILES[case % BLOCK_FILES.len()];
     let mut sample = maker.of_mode(version, mode);
-    if case / BLOCK_FILES.len() % 2 == 0 {
+    if case % (2 * BLOCK_FILES.len()) < BLOCK_FILES.len() {
         for block in &mut sample.blocks {
             block.coding = Coding::plain(&vec![maker.rng.byte(); PAGE]);
         }
