@@ -6,76 +6,67 @@ mod ffi_packing;
 #[path = "../packing/mod.rs"]
 mod packing;
 
-use compare::report::Report;
+use compare::report::{Group, Outcome, Report};
 use packing::checks::PackingChecker;
 use packing::{general_groups, pack_groups, place_groups, unpack_groups};
 use reference::memory::Rng;
 use std::process::ExitCode;
 
+/// Inputs that a run must at least compare.
+const LEAST_INPUTS_PACKED: u64 = 1_000_000;
+
+type Run = fn(&mut Group, &mut PackingChecker, &mut Rng) -> Outcome;
+
+const GROUPS: [(&str, Run); 22] = [
+    ("examples P1 to P11", |g, c, _| {
+        general_groups::examples(g, c)
+    }),
+    ("unpack every short list", |g, c, _| {
+        unpack_groups::all_lists(g, c)
+    }),
+    ("unpack random codes", unpack_groups::random_codes),
+    ("unpack random bytes", unpack_groups::random_bytes),
+    ("unpack damaged codes", unpack_groups::damaged),
+    ("unpack with little room", |g, c, _| {
+        unpack_groups::little_room(g, c)
+    }),
+    ("unpack at the edges of a look", |g, c, _| {
+        unpack_groups::looks(g, c)
+    }),
+    ("unpack packed pages", unpack_groups::pages),
+    ("unpack past 2^32 bytes", |g, c, _| {
+        unpack_groups::huge_sum(g, c)
+    }),
+    ("a bad code at every place", place_groups::every_code),
+    ("the first of two bad codes", place_groups::two_codes),
+    ("bad codes far behind", place_groups::far_codes),
+    ("no bad code", place_groups::no_codes),
+    ("pack every short list", |g, c, _| {
+        pack_groups::all_lists(g, c)
+    }),
+    ("pack every run length", |g, c, _| {
+        pack_groups::run_lengths(g, c)
+    }),
+    ("pack at the edges of a look", |g, c, _| {
+        pack_groups::looks(g, c)
+    }),
+    ("pack random runs", pack_groups::random_runs),
+    ("pack random bytes", pack_groups::random_bytes),
+    ("pack whole images", pack_groups::whole_images),
+    ("pack the longest page", pack_groups::longest_page),
+    ("round trips", |g, _, r| general_groups::round_trips(g, r)),
+    ("nothing stood before", |g, _, r| {
+        general_groups::nothing_before(g, r)
+    }),
+];
+
 fn main() -> ExitCode {
-    let mut report = Report::new(1_000_000);
+    let mut report = Report::new(LEAST_INPUTS_PACKED);
     let check = &mut PackingChecker::new(1);
     let rng = &mut Rng::new(2);
-    report.group("examples P1 to P11", |g| general_groups::examples(g, check));
-    report.group("unpack every short list", |g| {
-        unpack_groups::all_lists(g, check)
-    });
-    report.group("unpack random codes", |g| {
-        unpack_groups::random_codes(g, check, rng)
-    });
-    report.group("unpack random bytes", |g| {
-        unpack_groups::random_bytes(g, check, rng)
-    });
-    report.group("unpack damaged codes", |g| {
-        unpack_groups::damaged(g, check, rng)
-    });
-    report.group("unpack with little room", |g| {
-        unpack_groups::little_room(g, check)
-    });
-    report.group("unpack at the edges of a look", |g| {
-        unpack_groups::looks(g, check)
-    });
-    report.group("unpack packed pages", |g| {
-        unpack_groups::pages(g, check, rng)
-    });
-    report.group("unpack past 2^32 bytes", |g| {
-        unpack_groups::huge_sum(g, check)
-    });
-    report.group("a bad code at every place", |g| {
-        place_groups::every_code(g, check, rng)
-    });
-    report.group("the first of two bad codes", |g| {
-        place_groups::two_codes(g, check, rng)
-    });
-    report.group("bad codes far behind", |g| {
-        place_groups::far_codes(g, check, rng)
-    });
-    report.group("no bad code", |g| place_groups::no_codes(g, check, rng));
-    report.group("pack every short list", |g| {
-        pack_groups::all_lists(g, check)
-    });
-    report.group("pack every run length", |g| {
-        pack_groups::run_lengths(g, check)
-    });
-    report.group("pack at the edges of a look", |g| {
-        pack_groups::looks(g, check)
-    });
-    report.group("pack random runs", |g| {
-        pack_groups::random_runs(g, check, rng)
-    });
-    report.group("pack random bytes", |g| {
-        pack_groups::random_bytes(g, check, rng)
-    });
-    report.group("pack whole images", |g| {
-        pack_groups::whole_images(g, check, rng)
-    });
-    report.group("pack the longest page", |g| {
-        pack_groups::longest_page(g, check, rng)
-    });
-    report.group("round trips", |g| general_groups::round_trips(g, rng));
-    report.group("nothing stood before", |g| {
-        general_groups::nothing_before(g, rng)
-    });
+    for (name, run) in GROUPS {
+        report.group(name, |group| run(group, check, rng));
+    }
     report.fact("every answer seen", general_groups::answers_seen(check));
     report.finish()
 }

@@ -9,6 +9,7 @@ pub mod seen;
 pub mod view;
 
 use crate::report::Outcome;
+use std::collections::BTreeSet;
 use std::hint::black_box;
 
 /// Adds what is wrong at a place, if anything.
@@ -36,6 +37,14 @@ pub fn outcome(wrong: Vec<String>) -> Outcome {
     match wrong.is_empty() {
         true => Ok(()),
         false => Err(wrong.join("; ")),
+    }
+}
+
+/// A group saw each of these numbers.
+pub fn each_seen(seen: &BTreeSet<u32>, due: impl IntoIterator<Item = u32>) -> Outcome {
+    match due.into_iter().find(|number| !seen.contains(number)) {
+        Some(number) => Err(format!("{number} was never seen")),
+        None => Ok(()),
     }
 }
 

@@ -13,12 +13,22 @@ const PLACES: usize = 260;
 /// What is after a bad code, so that it is found by a look or byte by byte.
 const AFTER: [usize; 12] = [0, 1, 2, 11, 31, 32, 60, 63, 64, 67, 96, 130];
 
-/// Unpacks into parts that are full before, at and after the bad code; its place is noted.
+/// Misleading data that a group with other codes before the bad one must at least have.
+const LEAST_MISLEADING: usize = 500;
+
+/// The places of the bad codes that were told, and in how many data they were misleading.
+#[derive(Default)]
+struct ToldCodes {
+    places: BTreeSet<usize>,
+    misleading: usize,
+}
+
+/// Unpacks into parts that are full before, at and after the bad code.
 fn unpack(
     group: &mut Group,
     check: &mut PackingChecker,
     bad: &BadData,
-    told: &mut BTreeSet<usize>,
+    told: &mut ToldCodes,
 ) -> Outcome {
     let BadData { data, code } = bad;
     let UnpackedBytes::Bytes(front) = unpacked(&data[..*code]) else {
@@ -28,23 +38,27 @@ fn unpack(
     if unpacked(data) != due {
         return Err(format!("the reference's {:?}, not {due:?}", unpacked(data)));
     }
-    told.insert(*code);
+    told.places.insert(*code);
+    told.misleading += usize::from(bad.is_misleading());
     let full = front.len();
     let parts = [full, full + 1, full / 2, full.saturating_sub(1), full + 700];
     check.unpack(group, data, &parts)
 }
 
-/// Each place up to PLACES was told.
-fn every_place(told: &BTreeSet<usize>) -> Outcome {
-    match (0..=PLACES).find(|place| !told.contains(place)) {
+/// Each place up to PLACES was told, and enough data were misleading.
+fn every_place(told: &ToldCodes) -> Outcome {
+    match (0..=PLACES).find(|place| !told.places.contains(place)) {
         Some(place) => Err(format!("no bad code at {place}")),
+        None if told.misleading < LEAST_MISLEADING => {
+            Err(format!("only {} data were misleading", told.misleading))
+        }
         None => Ok(()),
     }
 }
 
 /// A bad code at every place, after plain bytes and after other codes: as the last bytes, and with more after it.
 pub fn every_code(group: &mut Group, check: &mut PackingChecker, rng: &mut Rng) -> Outcome {
-    let told = &mut BTreeSet::new();
+    let told = &mut ToldCodes::default();
     for before in 0..=PLACES {
         for front in [
             plain_front(before),
@@ -66,7 +80,7 @@ pub fn every_code(group: &mut Group, check: &mut PackingChecker, rng: &mut Rng) 
 
 /// Another bad code after the first, at every distance: the first counts.
 pub fn two_codes(group: &mut Group, check: &mut PackingChecker, rng: &mut Rng) -> Outcome {
-    let told = &mut BTreeSet::new();
+    let told = &mut ToldCodes::default();
     for before in 0..=PLACES {
         for between in (0..6).chain([27, 28, 55, 59, 60, 61, 64, 124, 188]) {
             let front = match between % 2 {
@@ -87,7 +101,7 @@ pub fn two_codes(group: &mut Group, check: &mut PackingChecker, rng: &mut Rng) -
 
 /// Bad codes far behind the first bytes, where no part has room any more.
 pub fn far_codes(group: &mut Group, check: &mut PackingChecker, rng: &mut Rng) -> Outcome {
-    let told = &mut BTreeSet::new();
+    let told = &mut ToldCodes::default();
     for near in [256, 4_096, 16_384, 65_536, 131_072] {
         for place in near - 3..=near + 3 {
             let front = any_front(rng, place);
@@ -98,9 +112,9 @@ pub fn far_codes(group: &mut Group, check: &mut PackingChecker, rng: &mut Rng) -
             unpack(group, check, &bad, told)?;
         }
     }
-    match told.len() == 5 * 7 && told.last() == Some(&131_075) {
+    match told.places.len() == 5 * 7 && told.places.last() == Some(&131_075) {
         true => Ok(()),
-        false => Err(format!("bad codes at {told:?}")),
+        false => Err(format!("bad codes at {:?}", told.places)),
     }
 }
 

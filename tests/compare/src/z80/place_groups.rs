@@ -5,11 +5,13 @@ use super::coding::Coding;
 use super::faults::{applies, damage, FAULT_NUMBERS};
 use super::maker::{Maker, VERSIONS};
 use super::sample::FileParts;
+use compare::calls::each_seen;
 use compare::calls::files::FileChecker;
 use compare::calls::offsets::{OffsetPlace, MANY_PLACES, ONE_PLACE};
 use compare::report::{Group, Outcome};
 use reference::machine::Version;
 use reference::memory::PAGE;
+use std::collections::BTreeSet;
 
 /// Files with blocks: both versions with both models.
 const BLOCK_FILES: [(Version, u8); 4] = [
@@ -53,25 +55,26 @@ pub fn any_block_file(maker: &mut Maker, case: usize) -> FileParts {
 
 /// Accepted files, and refusals that are told without an offset, of every version.
 pub fn without_offset(group: &mut Group, check: &mut FileChecker, maker: &mut Maker) -> Outcome {
-    for version in VERSIONS {
-        for number in [0, 2, 3, 4, 5, 6, 7, 13] {
-            for _ in 0..60 {
-                let mut sample = maker.sample(version);
-                if number != 0 && !applies(number, &sample) {
-                    break;
-                }
-                if number != 0 {
-                    damage(number, &mut sample, maker);
-                }
+    const NUMBERS_ALONE: [u32; 7] = [2, 3, 4, 5, 6, 7, 13];
+    let mut told = BTreeSet::new();
+    for case in 0..60 * VERSIONS.len() {
+        let good = maker.sample(VERSIONS[case % VERSIONS.len()]);
+        check.expect_at(group, &good.bytes(), 0, 0)?;
+        for number in NUMBERS_ALONE {
+            if applies(number, &good) {
+                let mut sample = good.clone();
+                damage(number, &mut sample, maker);
                 check.expect_at(group, &sample.bytes(), number, 0)?;
+                told.insert(number);
             }
         }
     }
-    Ok(())
+    each_seen(&told, NUMBERS_ALONE)
 }
 
 /// Files of every fault, read into an area or a header of another length: no offset.
 pub fn other_buffers(group: &mut Group, check: &mut FileChecker, maker: &mut Maker) -> Outcome {
+    let mut hidden = BTreeSet::new();
     for number in FAULT_NUMBERS {
         for case in 0..40 {
             let mut sample = maker.any();
@@ -80,13 +83,15 @@ pub fn other_buffers(group: &mut Group, check: &mut FileChecker, maker: &mut Mak
             }
             damage(number, &mut sample, maker);
             check.expect_no_offset(group, &sample.bytes(), case)?;
+            hidden.insert(number);
         }
     }
-    Ok(())
+    each_seen(&hidden, FAULT_NUMBERS)
 }
 
 /// A fault in the header and another one in a block or the body: no offset.
 pub fn header_first(group: &mut Group, check: &mut FileChecker, maker: &mut Maker) -> Outcome {
+    let (mut told, mut hidden) = (BTreeSet::new(), BTreeSet::new());
     for first in 3..=7 {
         for second in 8..=14 {
             for _ in 0..20 {
@@ -97,8 +102,10 @@ pub fn header_first(group: &mut Group, check: &mut FileChecker, maker: &mut Make
                 damage(second, &mut sample, maker);
                 damage(first, &mut sample, maker);
                 check.expect_at(group, &sample.bytes(), first, 0)?;
+                told.insert(first);
+                hidden.insert(second);
             }
         }
     }
-    Ok(())
+    each_seen(&told, 3..=7).and(each_seen(&hidden, 8..=14))
 }
