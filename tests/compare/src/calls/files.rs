@@ -73,7 +73,8 @@ impl FileChecker {
         self.expect_offset(offset)
     }
 
-    fn expect_offset(&self, offset: usize) -> Outcome {
+    /// The last read told the offset that the group knows before.
+    pub fn expect_offset(&self, offset: usize) -> Outcome {
         match self.last_offset {
             told if told == offset as u64 => Ok(()),
             told => Err(format!("the reference tells offset {told}, not {offset}")),

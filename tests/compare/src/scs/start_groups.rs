@@ -14,29 +14,29 @@ pub fn examples(group: &mut Group, check: &mut FileChecker) -> Outcome {
     let with = |more: &[u8]| [&start[..], more].concat();
     let (memory, cpu, ports) = ([3, 0, 0, 0, 0], [1, 0, 0, 0, 0], [2, 0, 0, 0, 0]);
     let three = [memory, cpu, ports].concat();
-    for (file, number) in [
-        (Vec::new(), 2),
-        (start[..14].to_vec(), 2),
-        (vec![0; 14], 2),
-        (vec![0; 15], 40),
-        (start.to_vec(), 43),
-        (with(&[0]), 43),
-        (with(&cpu), 43),
-        (with(&[4, 0, 0, 0, 0]), 43),
-        (with(&[3]), 8),
-        (with(&[3, 255, 255, 255, 255]), 8),
-        (with(&[3, 1, 0, 0, 0]), 8),
-        (with(&memory), 41),
-        (with(&[memory, cpu].concat()), 41),
-        (with(&[memory, ports].concat()), 41),
-        (with(&[memory, memory].concat()), 42),
-        (with(&[&three[..], &cpu].concat()), 42),
-        (with(&[&three[..], &[1, 1, 0, 0, 0]].concat()), 8),
-        (with(&[&three[..], &[0, 1, 1, 1, 1]].concat()), 0),
-        (with(&three), 0),
+    for (file, number, offset) in [
+        (Vec::new(), 2, 0),
+        (start[..14].to_vec(), 2, 0),
+        (vec![0; 14], 2, 0),
+        (vec![0; 15], 40, 0),
+        (start.to_vec(), 43, 0),
+        (with(&[0]), 43, 0),
+        (with(&cpu), 43, 0),
+        (with(&[4, 0, 0, 0, 0]), 43, 0),
+        (with(&[3]), 8, 15),
+        (with(&[3, 255, 255, 255, 255]), 8, 15),
+        (with(&[3, 1, 0, 0, 0]), 8, 15),
+        (with(&memory), 41, 0),
+        (with(&[memory, cpu].concat()), 41, 0),
+        (with(&[memory, ports].concat()), 41, 0),
+        (with(&[memory, memory].concat()), 42, 20),
+        (with(&[&three[..], &cpu].concat()), 42, 30),
+        (with(&[&three[..], &[1, 1, 0, 0, 0]].concat()), 8, 30),
+        (with(&[&three[..], &[0, 1, 1, 1, 1]].concat()), 0, 0),
+        (with(&three), 0, 0),
     ] {
-        let answer = check.read(group, &file)?;
-        expect(answer, number)?;
+        expect(check.read(group, &file)?, number)?;
+        check.expect_offset(offset)?;
     }
     let area = check.read_into(group, &with(&three), MEMORY - 1, HEADER)?;
     expect(area, 1)?;

@@ -2,7 +2,7 @@
 
 use super::coding::Coding;
 use super::maker::{Maker, VERSIONS};
-use super::sample::CodedBlock;
+use super::sample::{CodedBlock, FileParts};
 use compare::calls::expect;
 use compare::calls::files::FileChecker;
 use compare::report::{Group, Outcome};
@@ -108,6 +108,18 @@ pub fn changed(group: &mut Group, check: &mut FileChecker, maker: &mut Maker) ->
     Ok(())
 }
 
+/// The number and the offset of a good file of this length without what stands from a place after its header on.
+fn cut_number(sample: &FileParts, length: usize, end: usize) -> (u32, usize) {
+    let borders = sample.borders();
+    let next = borders.partition_point(|border| *border < end);
+    match sample.version {
+        _ if end == length => (0, 0),
+        Version::V1 => (14, end),
+        _ if borders[next] == end => (13, 0),
+        _ => (8, borders[next - 1]),
+    }
+}
+
 /// Short files of every version, cut at every place, and every byte of their bodies changed.
 pub fn every_cut(group: &mut Group, check: &mut FileChecker, maker: &mut Maker) -> Outcome {
     for (version, mode) in [
@@ -119,8 +131,13 @@ pub fn every_cut(group: &mut Group, check: &mut FileChecker, maker: &mut Maker) 
     ] {
         let sample = maker.short(version, mode);
         let good = sample.bytes();
-        for end in 0..=good.len() {
-            check.read(group, &good[..end])?;
+        for end in 0..sample.header.len() {
+            expect(check.read(group, &good[..end])?, 2)?;
+        }
+        for end in sample.header.len()..=good.len() {
+            let (number, offset) = cut_number(&sample, good.len(), end);
+            expect(check.read(group, &good[..end])?, number)?;
+            check.expect_offset(offset)?;
         }
         for at in sample.header.len()..good.len() {
             for value in [

@@ -12,16 +12,17 @@ use reference::memory::MEMORY;
 pub fn examples(group: &mut Group, check: &mut FileChecker) -> Outcome {
     let mut v1 = vec![0; 30];
     v1[7] = 0x80;
-    for (file, area, number) in [
-        (&[0; 29][..], MEMORY, 2),
-        (&v1[..29], MEMORY, 2),
-        (&[0; 30], MEMORY, 2),
-        (&v1, MEMORY, 12),
-        (&v1, MEMORY - 1, 1),
-        (&[], MEMORY - 1, 1),
+    for (file, area, number, offset) in [
+        (&[0; 29][..], MEMORY, 2, 0),
+        (&v1[..29], MEMORY, 2, 0),
+        (&[0; 30], MEMORY, 2, 0),
+        (&v1, MEMORY, 12, 30),
+        (&v1, MEMORY - 1, 1, 0),
+        (&[], MEMORY - 1, 1, 0),
     ] {
         let answer = check.read_into(group, file, area, HEADER)?;
         expect(answer, number)?;
+        check.expect_offset(offset)?;
     }
     let mut blank = [0; HEADER];
     (blank[30], blank[55], blank[56], blank[57]) = (54, 0x3F, 0x44, 3);
