@@ -61,6 +61,15 @@ pub const MANY_PLACES: &[OffsetPlace] =
 pub const ONE_PLACE: &[OffsetPlace] = &[OffsetPlace::Only];
 
 impl KnownRefusal {
+    /// A number that can have no other offset.
+    pub fn only(number: u32, offset: usize) -> KnownRefusal {
+        KnownRefusal {
+            number,
+            offset,
+            possible: offset..=offset,
+        }
+    }
+
     fn place(&self) -> Option<OffsetPlace> {
         let (first, last) = (*self.possible.start(), *self.possible.end());
         match self.offset {

@@ -122,18 +122,8 @@ pub fn cut_blocks(group: &mut Group, check: &mut FileChecker, maker: &mut Maker)
 
 /// 12 of v1 files, at byte 30: packed and plain bodies of other lengths.
 pub fn v1_lengths(group: &mut Group, check: &mut FileChecker, maker: &mut Maker) -> Outcome {
-    for length in [
-        0,
-        1,
-        2,
-        3,
-        4,
-        PAGE,
-        V1_BODY - 1,
-        V1_BODY + 1,
-        V1_BODY + 4,
-        0x1_0000 + V1_BODY,
-    ] {
+    let around = [V1_BODY - 1, V1_BODY + 1, V1_BODY + 4, 0x1_0000 + V1_BODY];
+    for length in (0..=4).chain([PAGE]).chain(around) {
         for is_packed in [true, false] {
             let mut sample = maker.short(Version::V1, 0);
             match is_packed {
@@ -144,11 +134,7 @@ pub fn v1_lengths(group: &mut Group, check: &mut FileChecker, maker: &mut Maker)
                     sample.marker.clear();
                 }
             }
-            let known = KnownRefusal {
-                number: 12,
-                offset: 30,
-                possible: 30..=30,
-            };
+            let known = KnownRefusal::only(12, 30);
             check.expect_refused(group, "v1", &sample.bytes(), &known)?;
         }
     }
@@ -168,12 +154,7 @@ pub fn v1_markers(group: &mut Group, check: &mut FileChecker, maker: &mut Maker)
             sample.body[end..].copy_from_slice(&[0x00, 0xED, 0xED, 0x00]);
             sample.body[end + length % 4] ^= 1 << maker.rng.below(8);
         }
-        let offset = 30 + length;
-        let known = KnownRefusal {
-            number: 14,
-            offset,
-            possible: offset..=offset,
-        };
+        let known = KnownRefusal::only(14, 30 + length);
         check.expect_refused(group, "v1", &sample.bytes(), &known)?;
     }
     Ok(())
