@@ -36,7 +36,7 @@ module _ (at : ℕ) (u : Found) (n : ℕ) (r : Unpacked) (part : List ℕ) (f : 
   page-wrong : r ≡ WrongLength → pageFrom at u page rest ≡ refused (faultAt at UnpackedLength)
   page-wrong e = let w = wrong-is u n 16384 r part f l e in rw (w .1 .0, w .1 .1)
 
-found-inside : (plain : Bool) (body : List ℕ) (i : ℕ) → contents plain body ≡ malformed i → i < length body
+pub found-inside : (plain : Bool) (body : List ℕ) (i : ℕ) → contents plain body ≡ malformed i → i < length body
 found-inside true body i e = let z : _≡_ {A = ℕ} 0 1 = cc in absurd (omega arith)
 found-inside false body i e = bad-inside body i e
 

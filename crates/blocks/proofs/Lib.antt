@@ -1,3 +1,4 @@
 pub mod BlocksSoFar
 pub mod BlocksLengths
 pub mod BlockSteps
+pub mod BlockPlaces

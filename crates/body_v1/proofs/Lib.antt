@@ -1,3 +1,4 @@
 mod Bodies
 mod BodyMoves
 pub mod BodyLengths
+pub mod BodyPlaces

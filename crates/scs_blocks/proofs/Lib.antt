@@ -2,3 +2,4 @@ pub mod ScsLeast
 mod ScsParts
 pub mod ScsSoFar
 pub mod ScsFilled
+pub mod ScsPlaces

@@ -1,2 +1,3 @@
 mod ScsByteSteps
 pub mod ScsAccepted
+pub mod Theorems

@@ -1,1 +1,2 @@
 pub mod ScsBytes
+pub mod Theorems

@@ -1,1 +1,2 @@
 mod ScsHeadSteps
+pub mod ScsHeadPlaces

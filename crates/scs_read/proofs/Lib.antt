@@ -1,2 +1,4 @@
 mod ScsLoadSteps
 mod ScsReadSteps
+pub mod ScsReadPlaces
+pub mod Theorems

@@ -1,1 +1,2 @@
 pub mod ScsReads
+pub mod Theorems

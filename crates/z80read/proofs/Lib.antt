@@ -1,4 +1,5 @@
 pub mod FileRead
 pub mod ReadTyped
 pub mod ReadLengths
+pub mod ReadPlaces
 pub mod Theorems
