@@ -27,8 +27,8 @@ struct snapshot {
 unsigned version_of(const uint8_t *file, size_t length);
 /* A 48K machine with modified hardware. */
 bool says_16k(const uint8_t *file, size_t length);
-/* What helps with a refusal, or nothing; of an SCS file too. */
 struct taking;
+/* What helps with a refusal, or nothing; of an SCS file too. */
 void hint_for(const struct taking *taken, char hint[HINT_SIZE]);
 
 /* scs.c: what the bytes of an SCS file say of themselves. */

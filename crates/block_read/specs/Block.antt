@@ -8,7 +8,7 @@ use Rattle.slices.specs.Choose.{choose}
 use Rattle.slices.specs.Bytes.{wordAt}
 use Rattle.packed.specs.Packed.{Found, malformed, bytes, unpacked}
 use Rattle.pages.specs.declared.Model.{Model}
-use Rattle.numbers.specs.declared.Fault.{Fault}
+use Rattle.numbers.specs.declared.FileFault.{FileFault}
 use Rattle.numbers.specs.declared.Refusal.the-variants.{BlockCut, BlockNumber, BlockTwice, MalformedData, UnpackedLength}
 use Rattle.numbers.specs.Faults.{faultAt}
 use Rattle.block_pages.specs.declared.Page.{Page}
@@ -17,7 +17,7 @@ use Rattle.block_pages.specs.Numbered.{pageOf}
 
 -- what one block brings: a fault, or a page, its 16,384 bytes and what is left of the file
 pub data Block : Type 0 where
-  refused : Fault → Block
+  refused : FileFault → Block
   brought : ℕ → List ℕ → List ℕ → Block
 
 -- how many bytes of data the word in a block's head means

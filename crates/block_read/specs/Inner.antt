@@ -10,7 +10,7 @@ use Rattle.slices.specs.Bytes.{wordAt}
 use Rattle.packed.specs.Unpacking.{answerOf, leftBy}
 use Rattle.packed.specs.declared.Unpacked.{Unpacked}
 use Rattle.pages.specs.declared.Model.{Model}
-use Rattle.numbers.specs.declared.Fault.{Fault}
+use Rattle.numbers.specs.declared.FileFault.{FileFault}
 use Rattle.numbers.specs.declared.Refusal.the-variants.{BlockCut, BlockNumber, BlockTwice}
 use Rattle.block_pages.specs.declared.Page.{Page}
 use Rattle.block_pages.specs.declared.Page.the-variants.{At, NoPage}
@@ -37,5 +37,5 @@ headAt model seen file place =
     (headOn (pageOf model (getD file (place + 2) 0)) seen (place + 3) (place + 3 + sizeOf (wordAt file place)) (eqb (wordAt file place) 65535)))
 
 -- the block at a place is refused
-pub record Refuses (model : Model) (seen : List Bool) (file : List ℕ) (at : ℕ) (fault : Fault) : Type 0 where
+pub record Refuses (model : Model) (seen : List Bool) (file : List ℕ) (at : ℕ) (fault : FileFault) : Type 0 where
   pub block : blockOf model seen at (drop at file) ≡ refused fault

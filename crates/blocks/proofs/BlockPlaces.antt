@@ -11,14 +11,14 @@ use Rattle.slices.specs.Bytes.{wordAt}
 use Rattle.slices.proofs.Chosen.{either}
 use Rattle.packed.specs.Packed.{Found, malformed, bytes}
 use Rattle.pages.specs.declared.Model.{Model}
-use Rattle.numbers.proofs.Places.{FaultIn, somewhere, nowhere}
+use Rattle.numbers.proofs.FaultPlaces.{FaultIn, somewhere, nowhere}
 use Rattle.block_pages.specs.declared.Page.{Page}
 use Rattle.block_pages.specs.declared.Page.the-variants.{At, NoPage}
 use Rattle.block_pages.specs.Numbered.{pageOf, allThere}
 use Rattle.block_read.specs.Block.{Block, refused, brought, sizeOf, contents, pageFrom, onPage, blockOf}
 use Rattle.blocks.specs.Blocks.{BodyResult, bodyRefused, bodyRead, afterBlock, finished, blocks, noneSeen, blocksInto}
 use Rattle.blocks.proofs.BlockSteps.{found-inside}
-use Rattle.blocks.proofs.BlocksSoFar.{onward}
+use Rattle.blocks.proofs.BlocksSoFar.{blocksOnward}
 
 -- of a body of a file of so many bytes
 abbrev pub BodyPlaced : ℕ → BodyResult → Type 0
@@ -72,11 +72,11 @@ unfolding blocks size
 all-placed model zero seen area place s h = finished-placed model seen area (place + length s)
 all-placed model (suc turns) seen area place s h =
     either (BodyPlaced (place + length s)) (eqb (length s) 0) _ _ (λ t. finished-placed model seen area (place + length s))
-    (λ t. after-placed place s h (blockOf model seen place s) (onward model turns seen area place s) (block-placed place s h model seen)
+    (λ t. after-placed place s h (blockOf model seen place s) (blocksOnward model turns seen area place s) (block-placed place s h model seen)
     (λ page xs rest l.
     let q = place + (length s - length rest) in
     let e : q + length rest ≡ place + length s = omega arith in
-    subst (λ (n : ℕ). BodyPlaced n (onward model turns seen area place s page xs rest)) e (all-placed model turns _ _ q rest (omega arith))))
+    subst (λ (n : ℕ). BodyPlaced n (blocksOnward model turns seen area place s page xs rest)) e (all-placed model turns _ _ q rest (omega arith))))
 
 pub blocks-placed : (model : Model) (area : List ℕ) (place : ℕ) (s : List ℕ) → 0 < place → BodyPlaced (place + length s) (blocksInto model area place s)
 unfolding blocksInto

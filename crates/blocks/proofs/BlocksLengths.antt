@@ -15,7 +15,7 @@ use Rattle.slices.specs.Put.{put}
 use Rattle.slices.proofs.Chosen.{either}
 use Rattle.packed.specs.Packed.{Found, malformed, bytes}
 use Rattle.pages.specs.declared.Model.{Model}
-use Rattle.numbers.specs.declared.Fault.{Fault}
+use Rattle.numbers.specs.declared.FileFault.{FileFault}
 use Rattle.numbers.specs.Faults.{faultAt}
 use Rattle.numbers.specs.declared.Refusal.the-variants.{BlockCut, BlockTwice, UnpackedLength}
 use Rattle.block_pages.specs.declared.Page.{Page}
@@ -40,7 +40,7 @@ left-set (false ∷ l) (suc p) h e = ap suc (left-set l p (le-of-suc-le-suc h) e
 -- a block that is taken lies on a page that was not seen, and is followed by what stands behind it
 module _ (P : Type 0) (seen : List Bool) (place : ℕ) (r a : List ℕ) (f : ℕ → List ℕ → List ℕ → BodyResult)
     (k : (page : ℕ) (xs : List ℕ) → page < 8 → getD seen page false ≡ false → f page xs r ≡ bodyRead a → P) where
-  past-check : (b : Bool) (fault : Fault) (x : Block) → (b ≡ false → afterBlock x f ≡ bodyRead a → P) → afterBlock (choose b (refused fault) x) f ≡ bodyRead a → P
+  past-check : (b : Bool) (fault : FileFault) (x : Block) → (b ≡ false → afterBlock x f ≡ bodyRead a → P) → afterBlock (choose b (refused fault) x) f ≡ bodyRead a → P
   past-check true fault x g e = let z : _≡_ {A = ℕ} 0 1 = cc in absurd (omega arith)
   past-check false fault x g e = g refl e
 

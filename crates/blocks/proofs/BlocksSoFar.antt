@@ -11,7 +11,7 @@ use Rattle.slices.specs.Put.{put}
 use Rattle.slices.specs.Blank.{blank}
 use Rattle.pages.specs.declared.Model.{Model}
 use Rattle.numbers.specs.declared.Refusal.the-variants.{BlockMissing}
-use Rattle.numbers.specs.declared.Fault.{Fault}
+use Rattle.numbers.specs.declared.FileFault.{FileFault}
 use Rattle.numbers.specs.Faults.{unplaced}
 use Rattle.blocks.specs.declared.BodyAnswer.{BodyAnswer}
 use Rattle.blocks.specs.declared.BodyAnswer.the-variants.{Whole}
@@ -34,12 +34,12 @@ unfolding blocksInto
 blocks-begin model file area from = record { turns = length (drop from file); enough = omega (arith, length-drop from file); same = refl }
 
 -- what follows a block
-abbrev pub onward : Model → ℕ → List Bool → List ℕ → ℕ → List ℕ → ℕ → List ℕ → List ℕ → BodyResult
-onward model turns seen area place s page xs rest = blocks model turns (set seen page true) (put area (page * 16384) xs) (place + (length s - length rest)) rest
+abbrev pub blocksOnward : Model → ℕ → List Bool → List ℕ → ℕ → List ℕ → ℕ → List ℕ → List ℕ → BodyResult
+blocksOnward model turns seen area place s page xs rest = blocks model turns (set seen page true) (put area (page * 16384) xs) (place + (length s - length rest)) rest
 
 -- one turn of the definition, where there is a byte left
 pub turn : (model : Model) (turns : ℕ) (seen : List Bool) (area : List ℕ) (place : ℕ) (s : List ℕ) → 0 < length s
-    → blocks model (suc turns) seen area place s ≡ afterBlock (blockOf model seen place s) (onward model turns seen area place s)
+    → blocks model (suc turns) seen area place s ≡ afterBlock (blockOf model seen place s) (blocksOnward model turns seen area place s)
 unfolding blocks
 turn model turns seen area place s h = rw (ne-eqb (length s) 0 (λ e. omega arith))
 
@@ -64,11 +64,11 @@ module _ (model : Model) (file area after : List ℕ) (seen : List Bool) (at : �
 module _ (model : Model) (file : List ℕ) (all : BodyResult) (area : List ℕ) (seen : List Bool) (at : ℕ) (g : BlocksSoFar model file all area seen at) where
   -- with a byte left there is a turn left
   block-ahead : at < length file
-      → (t : ℕ) × ((length file - at ≤ suc t) × (afterBlock (blockOf model seen at (drop at file)) (onward model t seen area at (drop at file)) ≡ all))
+      → (t : ℕ) × ((length file - at ≤ suc t) × (afterBlock (blockOf model seen at (drop at file)) (blocksOnward model t seen area at (drop at file)) ≡ all))
   block-ahead h = go (g .turns) (g .enough) (g .same)
     where
       go : (t : ℕ) → length file - at ≤ t → blocks model t seen area at (drop at file) ≡ all
-          → (t : ℕ) × ((length file - at ≤ suc t) × (afterBlock (blockOf model seen at (drop at file)) (onward model t seen area at (drop at file)) ≡ all))
+          → (t : ℕ) × ((length file - at ≤ suc t) × (afterBlock (blockOf model seen at (drop at file)) (blocksOnward model t seen area at (drop at file)) ≡ all))
       go zero e q = absurd (omega arith)
       go (suc t) e q = (t, (e, sym (turn model t seen area at (drop at file) (omega (arith, length-drop at file))) ∙ q))
 
@@ -84,16 +84,16 @@ module _ (model : Model) (file : List ℕ) (all : BodyResult) (area : List ℕ) 
         same =
             ap (λ (l : List ℕ). blocks model (r .0) (set seen page true) l next (drop next file)) (b .placed)
             ∙ ap (λ (n : ℕ). blocks model (r .0) (set seen page true) (put area (page * 16384) (b .page-bytes)) n (drop next file)) q
-            ∙ sym (ap (λ (x : Block). afterBlock x (onward model (r .0) seen area at (drop at file))) (b .block))
+            ∙ sym (ap (λ (x : Block). afterBlock x (blocksOnward model (r .0) seen area at (drop at file))) (b .block))
             ∙ r .1 .1;
       }
 
-  pub going-stop : (after clear : List ℕ) (step : BlockStep) (n : Fault) (r : BodyAnswer) → at < length file → StepSays model seen file at area after step → step ≡ Failed n
+  pub going-stop : (after clear : List ℕ) (step : BlockStep) (n : FileFault) (r : BodyAnswer) → at < length file → StepSays model seen file at area after step → step ≡ Failed n
       → ReadsBody (bodyRefused n) r clear → ReadsBody all r clear
   going-stop after clear step n r h s e t =
       let b : Refuses model seen file at n = subst (StepSays model seen file at area after) e s in
       let o = block-ahead h in
-      let q : bodyRefused n ≡ all = sym (ap (λ (x : Block). afterBlock x (onward model (o .0) seen area at (drop at file))) (b .block)) ∙ o .1 .1 in
+      let q : bodyRefused n ≡ all = sym (ap (λ (x : Block). afterBlock x (blocksOnward model (o .0) seen area at (drop at file))) (b .block)) ∙ o .1 .1 in
       subst (λ (x : BodyResult). ReadsBody x r clear) q t
 
   at-end : length file ≤ at → (b : Bool) → b ≡ allThere model seen → choose b (bodyRead area) (bodyRefused (unplaced BlockMissing)) ≡ all
@@ -102,7 +102,7 @@ module _ (model : Model) (file : List ℕ) (all : BodyResult) (area : List ℕ) 
   pub going-all : (b : Bool) → length file ≤ at → b ≡ allThere model seen → b ≡ true → ReadsBody all Whole area
   going-all b h e t = subst (λ (x : BodyResult). ReadsBody x Whole area) (rw t at (at-end h b e)) (refl, refl)
 
-  pub going-missing : (b : Bool) (clear : List ℕ) (fault : Fault) (r : BodyAnswer) → length file ≤ at → b ≡ allThere model seen → b ≡ false → fault ≡ unplaced BlockMissing
+  pub going-missing : (b : Bool) (clear : List ℕ) (fault : FileFault) (r : BodyAnswer) → length file ≤ at → b ≡ allThere model seen → b ≡ false → fault ≡ unplaced BlockMissing
       → ReadsBody (bodyRefused fault) r clear → ReadsBody all r clear
   going-missing b clear fault r h e t f q = subst (λ (x : BodyResult). ReadsBody x r clear) (ap bodyRefused f ∙ rw t at (at-end h b e)) q
 

@@ -10,7 +10,7 @@ use Rattle.slices.specs.Put.{put}
 use Rattle.slices.specs.Blank.{blank}
 use Rattle.pages.specs.declared.Model.{Model}
 use Rattle.numbers.specs.declared.Refusal.the-variants.{BlockMissing}
-use Rattle.numbers.specs.declared.Fault.{Fault}
+use Rattle.numbers.specs.declared.FileFault.{FileFault}
 use Rattle.numbers.specs.Faults.{unplaced}
 use Rattle.block_pages.specs.Numbered.{allThere}
 use Rattle.block_read.specs.Block.{Block, refused, brought, blockOf}
@@ -19,7 +19,7 @@ use Rattle.blocks.specs.declared.BodyAnswer.the-variants.{Whole, Faulty}
 
 -- what reading the body of a file comes to: a fault, or the whole area
 pub data BodyResult : Type 0 where
-  bodyRefused : Fault → BodyResult
+  bodyRefused : FileFault → BodyResult
   bodyRead : List ℕ → BodyResult
 
 -- what reading a body answers and leaves in the area. "A refused read gives .. an area all zero"

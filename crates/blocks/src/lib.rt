@@ -1,6 +1,6 @@
 // The blocks of a v2 or v3 file read into the pages of a lent area, one after the other.
 use block_read::BlockHead;
-use numbers::Fault;
+use numbers::FileFault;
 use numbers::Refusal;
 use packed::Unpacked;
 use pages::Model;
@@ -13,12 +13,12 @@ ghost use Rattle.blocks.specs.Inner.{StepSays};
 // What reading the body of a file comes to.
 pub enum BodyAnswer {
     Whole,
-    Faulty(Fault),
+    Faulty(FileFault),
 }
 
 // Where the next block begins, or a fault.
 enum BlockStep {
-    Failed(Fault),
+    Failed(FileFault),
     Next { page: usize, at: usize },
 }
 
@@ -44,7 +44,7 @@ pub fn read_blocks(file: &[u8], from: usize, model: Model, area: &mut [u8]) -> B
     refused_area(area, numbers::no_place(Refusal::BlockMissing))
 }
 
-fn refused_area(area: &mut [u8], fault: Fault) -> BodyAnswer
+fn refused_area(area: &mut [u8], fault: FileFault) -> BodyAnswer
     requires { ⌜ length (now area) ≡ 131072 ⌝ }
     ensures { λ r. ⌜ ReadsBody (bodyRefused fault) r (now (area .exit)) ⌝ }
 {
@@ -58,7 +58,7 @@ fn read_block(file: &[u8], at: usize, model: Model, seen: [bool; 8], area: &mut 
     ensures { λ r. ⌜ StepSays model seen (now (file .entry)) at (now (area .entry)) (now (area .exit)) r ⌝ }
 {
     match block_read::head_at(file, at, model, seen) {
-        BlockHead::Bad(why) => BlockStep::Failed(Fault { why, place: at }),
+        BlockHead::Bad(why) => BlockStep::Failed(FileFault { why, place: at }),
         BlockHead::Data {
             page,
             start,
@@ -72,12 +72,12 @@ fn read_block(file: &[u8], at: usize, model: Model, seen: [bool; 8], area: &mut 
                 Unpacked::Good => BlockStep::Next { page, at: end },
                 Unpacked::Malformed(i) => {
                     let place = start + i;
-                    BlockStep::Failed(Fault {
+                    BlockStep::Failed(FileFault {
                         why: Refusal::MalformedData,
                         place,
                     })
                 }
-                Unpacked::WrongLength => BlockStep::Failed(Fault {
+                Unpacked::WrongLength => BlockStep::Failed(FileFault {
                     why: Refusal::UnpackedLength,
                     place: at,
                 }),

@@ -10,13 +10,13 @@ use lib.ListN.{length, take, length-take}
 use Rattle.slices.specs.Choose.{choose}
 use Rattle.packed.specs.Packed.{Found, malformed, bytes, unpacked}
 use Rattle.packed.specs.Packed.Promise.{unpacked-long}
-use Rattle.numbers.specs.declared.Fault.{Fault}
+use Rattle.numbers.specs.declared.FileFault.{FileFault}
 use Rattle.numbers.specs.Faults.{faultAt}
 use Rattle.numbers.specs.declared.Refusal.the-variants.{UnpackedLength, EndMarker}
 use Rattle.blocks.specs.Blocks.{BodyResult, bodyRefused, bodyRead}
 use Rattle.body_v1.specs.Body.{spread, spreadFrom, marked, bodyInto}
 
-only-read : (P : Type 0) (t : Bool) (x : BodyResult) (fault : Fault) (a : List ℕ) → (t ≡ true → x ≡ bodyRead a → P) → choose t x (bodyRefused fault) ≡ bodyRead a → P
+only-read : (P : Type 0) (t : Bool) (x : BodyResult) (fault : FileFault) (a : List ℕ) → (t ≡ true → x ≡ bodyRead a → P) → choose t x (bodyRefused fault) ≡ bodyRead a → P
 only-read P true x fault a f e = f refl e
 only-read P false x fault a f e = let z : _≡_ {A = ℕ} 0 1 = cc in absurd (omega arith)
 

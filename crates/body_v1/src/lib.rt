@@ -1,6 +1,6 @@
 // The one stream of a v1 file read into the pages of a lent area. Above packing, through its promise alone.
 use blocks::BodyAnswer;
-use numbers::Fault;
+use numbers::FileFault;
 use numbers::Refusal;
 use packed::Unpacked;
 ghost use Prim.Native.Nat.{_+_, _≤_};
@@ -87,13 +87,13 @@ fn unpack_body(src: &[u8], place: usize, area: &mut [u8]) -> BodyAnswer
         }
         Unpacked::Malformed(i) => {
             let bad = place + i;
-            return BodyAnswer::Faulty(Fault {
+            return BodyAnswer::Faulty(FileFault {
                 why: Refusal::MalformedData,
                 place: bad,
             });
         }
         Unpacked::WrongLength => {
-            return BodyAnswer::Faulty(Fault {
+            return BodyAnswer::Faulty(FileFault {
                 why: Refusal::UnpackedLength,
                 place,
             })
@@ -112,7 +112,7 @@ pub fn read_body(file: &[u8], from: usize, packed: bool, area: &mut [u8]) -> Bod
             let n = body.len() - 4;
             return unpack_body(&body[0..n], from, area);
         }
-        return BodyAnswer::Faulty(Fault {
+        return BodyAnswer::Faulty(FileFault {
             why: Refusal::EndMarker,
             place: file.len(),
         });
@@ -121,7 +121,7 @@ pub fn read_body(file: &[u8], from: usize, packed: bool, area: &mut [u8]) -> Bod
         spread_out(body, area);
         return BodyAnswer::Whole;
     }
-    BodyAnswer::Faulty(Fault {
+    BodyAnswer::Faulty(FileFault {
         why: Refusal::UnpackedLength,
         place: from,
     })

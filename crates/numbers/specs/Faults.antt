@@ -5,14 +5,14 @@ use mathlib.Core.Path.{_≡_}
 use mathlib.Core.Bool.{Bool, true, false, _||_}
 use lib.Dec.{eqb}
 use Rattle.numbers.specs.declared.Refusal.{Refusal}
-use Rattle.numbers.specs.declared.Fault.{Fault}
+use Rattle.numbers.specs.declared.FileFault.{FileFault}
 
 -- refused at a place of the file
-abbrev pub faultAt : ℕ → Refusal → Fault
+abbrev pub faultAt : ℕ → Refusal → FileFault
 faultAt place why = record { why = why; place = place }
 
 -- "0 elsewhere"
-abbrev pub unplaced : Refusal → Fault
+abbrev pub unplaced : Refusal → FileFault
 unplaced why = faultAt 0 why
 
 -- the numbers that are given with a place
@@ -20,7 +20,7 @@ abbrev pub isPlaced : ℕ → Bool
 isPlaced n = eqb n 8 || eqb n 9 || eqb n 10 || eqb n 11 || eqb n 12 || eqb n 14 || eqb n 42
 
 -- the place that is given with a number, of a file of so many bytes: in the file or at its end, and 0 exactly where none is named
-pub record PlaceIn (number place size : ℕ) : Type 0 where
+pub record NamedPlace (number place size : ℕ) : Type 0 where
   pub inside : place ≤ size
   pub none : isPlaced number ≡ false → place ≡ 0
   pub some : isPlaced number ≡ true → 0 < place

@@ -44,16 +44,16 @@ pub enum Answer {
 }
 
 // Why a file is refused, and the place in it that is named: an offset in the whole file, 0 where none is.
-pub struct Fault {
+pub struct FileFault {
     pub why: Refusal,
     pub place: usize,
 }
 
 // A fault of a file that has no place in it.
-pub fn no_place(why: Refusal) -> Fault
+pub fn no_place(why: Refusal) -> FileFault
     ensures { λ r. ⌜ r ≡ unplaced why ⌝ }
 {
-    Fault { why, place: 0 }
+    FileFault { why, place: 0 }
 }
 
 // The numbers of two calls.

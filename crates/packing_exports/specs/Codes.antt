@@ -10,10 +10,10 @@ unpackCode Good = 0
 unpackCode (Malformed i) = 1
 unpackCode WrongLength = 2
 
-abbrev pub placeIn : Unpacked → ℕ
-placeIn Good = 0
-placeIn (Malformed i) = i
-placeIn WrongLength = 0
+abbrev pub badPlace : Unpacked → ℕ
+badPlace Good = 0
+badPlace (Malformed i) = i
+badPlace WrongLength = 0
 
 abbrev pub packCode : Fit → ℕ
 packCode (Length n) = 0

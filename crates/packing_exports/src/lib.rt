@@ -6,15 +6,15 @@ ghost use lib.ListN.{length};
 ghost use Rattle.packed.specs.Packed.{unpacked, packed};
 ghost use Rattle.packed.specs.Unpacking.{answerOf, leftBy};
 ghost use Rattle.packed.specs.Packing.{fits, fitted};
-ghost use Rattle.packing_exports.specs.Codes.{unpackCode, placeIn, packCode, lengthIn};
+ghost use Rattle.packing_exports.specs.Codes.{unpackCode, badPlace, packCode, lengthIn};
 
 // 0 good, 1 malformed, 2 wrong length; the place of the first bad code, or 0.
 #[no_mangle]
 pub extern "C" fn packing_unpack(src: &[u8], dst: &mut [u8], place: &mut u64) -> u32
-    ensures { λ r. ⌜ (r ≡ unpackCode (answerOf (unpacked (now (src .entry))) (length (now (dst .entry))))) × ((now (place .exit) ≡ placeIn (answerOf (unpacked (now (src .entry))) (length (now (dst .entry))))) × (now (dst .exit) ≡ leftBy (unpacked (now (src .entry))) (length (now (dst .entry))))) ⌝ }
+    ensures { λ r. ⌜ (r ≡ unpackCode (answerOf (unpacked (now (src .entry))) (length (now (dst .entry))))) × ((now (place .exit) ≡ badPlace (answerOf (unpacked (now (src .entry))) (length (now (dst .entry))))) × (now (dst .exit) ≡ leftBy (unpacked (now (src .entry))) (length (now (dst .entry))))) ⌝ }
 {
     let r = unpacking::unpack(src, dst);
-    *place = place_in(r);
+    *place = bad_place(r);
     unpack_code(r)
 }
 
@@ -46,8 +46,8 @@ fn unpack_code(r: Unpacked) -> u32
     }
 }
 
-fn place_in(r: Unpacked) -> u64
-    ensures { λ n. ⌜ n ≡ placeIn r ⌝ }
+fn bad_place(r: Unpacked) -> u64
+    ensures { λ n. ⌜ n ≡ badPlace r ⌝ }
 {
     match r {
         Unpacked::Good => 0,

@@ -8,7 +8,7 @@ use lib.Dec.{eqb, leb, ltb}
 use borrow.Author.Tests.{leb-false}
 use Rattle.slices.specs.Bytes.{at}
 use Rattle.slices.proofs.Chosen.{either}
-use Rattle.numbers.proofs.Places.{FaultIn, somewhere}
+use Rattle.numbers.proofs.FaultPlaces.{FaultIn, somewhere}
 use Rattle.scs_blocks.specs.declared.ScsSeen.{ScsSeen}
 use Rattle.scs_blocks.specs.declared.ScsFound.{ScsFound}
 use Rattle.scs_blocks.specs.declared.ScsFound.the-variants.{Bad, Blocks}

@@ -1,5 +1,5 @@
 // The blocks of an SCS file: one pass that notes where the data of the CPU, Ports and Memory blocks stand, and copies nothing.
-use numbers::Fault;
+use numbers::FileFault;
 use numbers::Refusal;
 ghost use Prim.Native.Nat.{_+_, _≤_};
 ghost use mathlib.Core.Path.{_≡_};
@@ -21,7 +21,7 @@ pub struct ScsSeen {
 }
 
 pub enum ScsFound {
-    Bad(Fault),
+    Bad(FileFault),
     Blocks(ScsSeen),
 }
 
@@ -43,17 +43,17 @@ pub fn find_blocks(file: &[u8], from: usize) -> ScsFound
         let left = file.len() - place;
         if left < 5 {
             let why = Refusal::BlockCut;
-            return ScsFound::Bad(Fault { why, place });
+            return ScsFound::Bad(FileFault { why, place });
         }
         let size = size_at(file, place + 1);
         if left - 5 < size {
             let why = Refusal::BlockCut;
-            return ScsFound::Bad(Fault { why, place });
+            return ScsFound::Bad(FileFault { why, place });
         }
         let part = part_of(seen, number);
         if is_there(part) {
             let why = Refusal::ScsBlockTwice;
-            return ScsFound::Bad(Fault { why, place });
+            return ScsFound::Bad(FileFault { why, place });
         }
         seen = note(seen, number, place + 5, size);
         place = place + 5 + size;

@@ -1,2 +1,3 @@
 pub mod ScsBytes
+pub mod Readers
 pub mod Theorems

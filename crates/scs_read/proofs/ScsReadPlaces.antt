@@ -8,7 +8,7 @@ use lib.ListN.{length}
 use Rattle.slices.proofs.Chosen.{either}
 use Rattle.pages.specs.declared.Model.{Model}
 use Rattle.numbers.specs.Numbers.{refusalNumber}
-use Rattle.numbers.proofs.Places.{nowhere}
+use Rattle.numbers.proofs.FaultPlaces.{nowhere}
 use Rattle.z80read.specs.Read.{ReadResult}
 use Rattle.z80read.proofs.ReadPlaces.{ResultPlaced}
 use Rattle.scs_blocks.specs.declared.ScsSeen.{ScsSeen}

@@ -9,7 +9,7 @@ use borrow.Author.Tests.{eq-eqb, ne-eqb, eqb-false}
 use Rattle.slices.proofs.Chosen.{either}
 use Rattle.pages.specs.declared.Model.{Model}
 use Rattle.numbers.specs.declared.Refusal.{Refusal}
-use Rattle.numbers.specs.declared.Fault.{Fault}
+use Rattle.numbers.specs.declared.FileFault.{FileFault}
 use Rattle.numbers.specs.Faults.{unplaced}
 use Rattle.numbers.specs.declared.Refusal.the-variants.{AreaLength}
 use Rattle.numbers.specs.declared.Answer.the-variants.{Accepted}
@@ -29,7 +29,7 @@ use Rattle.scs_head.specs.ScsHeads.{scsHeadOf}
 use Rattle.scs_read.specs.ScsReads.{afterSeen, afterFound, afterScsHead, scsReadOf}
 
 -- a refusal is not accepted, so nothing is said of its machine
-refused-reads : (o : ReadResult) (fault : Fault) (n : ℕ) (r : Opened) (area : List ℕ) → refusedRead fault n ≡ o → ReadLeaves (refusedRead fault n) r area → Reads o r area
+refused-reads : (o : ReadResult) (fault : FileFault) (n : ℕ) (r : Opened) (area : List ℕ) → refusedRead fault n ≡ o → ReadLeaves (refusedRead fault n) r area → Reads o r area
 refused-reads o fault n r area e l = subst (λ (x : ReadResult). Reads x r area) e (record { leaves = l; valid = λ a. absurd (refused-not (fault .why) (sym (l .answer) ∙ a)) })
 
 -- what is loaded is valid where it is accepted
@@ -42,7 +42,7 @@ loaded-valid seen model s n =
     (λ t a. absurd (refused-not _ a))
 
 module _ (s area : List ℕ) (r : Opened) (after : List ℕ) where
-  pub scs-length : (fault : Fault) → (length area ≡ 131072 → ⊥) → fault ≡ unplaced AreaLength → ReadLeaves (refusedRead fault (length area)) r after → Reads (scsReadOf s (length area)) r after
+  pub scs-length : (fault : FileFault) → (length area ≡ 131072 → ⊥) → fault ≡ unplaced AreaLength → ReadLeaves (refusedRead fault (length area)) r after → Reads (scsReadOf s (length area)) r after
   unfolding scsReadOf
   scs-length fault h f l = refused-reads _ fault (length area) r after (rw (ne-eqb (length area) 131072 h, f)) l
 
@@ -51,17 +51,17 @@ module _ (s area : List ℕ) (r : Opened) (after : List ℕ) where
     unfolding scsReadOf
     scs-after-head = rw (eq-eqb (length area) 131072 h, ← eh)
 
-    pub scs-head-refused : (why : Refusal) (fault : Fault) → head ≡ ScsHead.Bad why → fault ≡ unplaced why → ReadLeaves (refusedRead fault (length area)) r after
+    pub scs-head-refused : (why : Refusal) (fault : FileFault) → head ≡ ScsHead.Bad why → fault ≡ unplaced why → ReadLeaves (refusedRead fault (length area)) r after
         → Reads (scsReadOf s (length area)) r after
     scs-head-refused why fault e f l =
         refused-reads _ fault (length area) r after
-        (ap (λ (x : Fault). refusedRead x (length area)) f ∙ sym (ap (λ (x : ScsHead). afterScsHead x s (length area)) e) ∙ scs-after-head) l
+        (ap (λ (x : FileFault). refusedRead x (length area)) f ∙ sym (ap (λ (x : ScsHead). afterScsHead x s (length area)) e) ∙ scs-after-head) l
 
     module _ (model : Model) (em : head ≡ Spectrum model) (found : ScsFound) (ef : found ≡ scsBlocks s 15) where
       after-found : afterFound found model s (length area) ≡ scsReadOf s (length area)
       after-found = ap (λ (x : ScsFound). afterFound x model s (length area)) ef ∙ sym (ap (λ (x : ScsHead). afterScsHead x s (length area)) em) ∙ scs-after-head
 
-      pub scs-blocks-refused : (fault : Fault) → found ≡ Bad fault → ReadLeaves (refusedRead fault (length area)) r after → Reads (scsReadOf s (length area)) r after
+      pub scs-blocks-refused : (fault : FileFault) → found ≡ Bad fault → ReadLeaves (refusedRead fault (length area)) r after → Reads (scsReadOf s (length area)) r after
       scs-blocks-refused fault e l = refused-reads _ fault (length area) r after (sym (ap (λ (x : ScsFound). afterFound x model s (length area)) e) ∙ after-found) l
 
       module _ (seen : ScsSeen) (e : found ≡ Blocks seen) where

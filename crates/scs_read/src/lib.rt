@@ -1,7 +1,7 @@
 // Reading an SCS file with a Spectrum inside, already unwrapped, into a machine and a lent area of 131,072 bytes. The blocks are looked
 // through before anything is copied.
 use numbers::Answer;
-use numbers::Fault;
+use numbers::FileFault;
 use numbers::Refusal;
 use pages::Model;
 use scs_blocks::ScsFound;
@@ -36,7 +36,7 @@ pub fn read(file: &[u8], area: &mut [u8]) -> Opened
     }
 }
 
-fn refused_scs(area: &mut [u8], fault: Fault) -> Opened
+fn refused_scs(area: &mut [u8], fault: FileFault) -> Opened
     ensures { λ r. ⌜ ReadLeaves (refusedRead fault (length (now (area .entry)))) r (now (area .exit)) ⌝ }
 {
     slices::fill(area, 0);

@@ -24,7 +24,7 @@ use Rattle.block_pages.specs.declared.Page.the-variants.{At}
 use Rattle.block_read.specs.Block.{Block, brought, sizeOf, contents, onPage, blockOf}
 use Rattle.blocks.specs.Blocks.{bodyRead, bodyRefused, afterBlock, finished, blocks, noneSeen, blocksInto}
 use Rattle.block_pages.specs.Numbered.{pageOf, allThere}
-use Rattle.blocks.proofs.BlocksSoFar.{onward, turn, ended}
+use Rattle.blocks.proofs.BlocksSoFar.{blocksOnward, turn, ended}
 use Rattle.pages.specs.declared.Slot.{Slot}
 use Rattle.block_write.specs.BlockFor.{blockFor}
 use Rattle.blocks_write.specs.Laid.{laid}
@@ -117,7 +117,7 @@ one-more model turns place number page seen seen′ a p rest t f u l r =
       last = r .last;
       reading =
           turn model turns seen a place (blockFor number p ++ rest) (omega (arith, longer number p rest))
-          ∙ ap (λ (y : Block). afterBlock y (onward model turns seen a place (blockFor number p ++ rest))) (one-block model seen place number page p rest f u l)
+          ∙ ap (λ (y : Block). afterBlock y (blocksOnward model turns seen a place (blockFor number p ++ rest))) (one-block model seen place number page p rest f u l)
           ∙ r .reading;
       long = r .long;
       agree = r .agree;

@@ -14,7 +14,7 @@ use Rattle.slices.specs.Blank.{blank}
 use Rattle.packed.specs.Packed.{Found, malformed, unpacked, bytes}
 use Rattle.pages.specs.declared.Model.{Model}
 use Rattle.pages.specs.declared.Model.the-variants.{K48}
-use Rattle.numbers.specs.declared.Fault.{Fault}
+use Rattle.numbers.specs.declared.FileFault.{FileFault}
 use Rattle.numbers.specs.Faults.{faultAt, unplaced}
 use Rattle.numbers.specs.declared.Refusal.the-variants.{BlockCut, BlockTwice, UnpackedLength, BlockMissing, EndMarker}
 use Rattle.pages.specs.Pages.{owned}
@@ -25,7 +25,7 @@ use Rattle.blocks.specs.Blocks.{BodyResult, bodyRefused, bodyRead, afterBlock, 
 use Rattle.block_pages.specs.Numbered.{pageOf, allThere}
 use Rattle.pages.proofs.PageSteps.{owned-small}
 use Rattle.block_pages.proofs.BlockNumbers.{page-owned}
-use Rattle.blocks.proofs.BlocksSoFar.{onward}
+use Rattle.blocks.proofs.BlocksSoFar.{blocksOnward}
 use Rattle.body_v1.specs.Body.{spread, spreadFrom, marked, bodyInto}
 use Rattle.z80file.specs.Clean.{Clean}
 use Rattle.z80file.proofs.PagesOfArea.{put-long, put-elsewhere, blank-at, blank-long}
@@ -39,7 +39,7 @@ abbrev pub CleanBody : Model → BodyResult → Type 0
 CleanBody model (bodyRefused fault) = Unit {0}
 CleanBody model (bodyRead a) = Clean model a
 
-owned-refuse : (model : Model) (b : Bool) (fault : Fault) (x : Block) → OwnedBlock model x → OwnedBlock model (choose b (refused fault) x)
+owned-refuse : (model : Model) (b : Bool) (fault : FileFault) (x : Block) → OwnedBlock model x → OwnedBlock model (choose b (refused fault) x)
 owned-refuse model true fault x g = tt
 owned-refuse model false fault x g = g
 
@@ -99,7 +99,7 @@ clean-turns : (model : Model) (turns : ℕ) (seen : List Bool) (a : List ℕ) (p
 unfolding blocks
 clean-turns model zero seen a place s k = clean-finished model (allThere model seen) a k
 clean-turns model (suc turns) seen a place s k =
-    let on = onward model turns seen a place s in
+    let on = blocksOnward model turns seen a place s in
     clean-choose model (eqb (length s) 0) (finished model seen a) (afterBlock (blockOf model seen place s) on) (clean-finished model (allThere model seen) a k)
     (clean-then model (blockOf model seen place s) on (owned-block model seen place s)
     (λ page xs rest o h l. clean-turns model turns (set seen page true) (put a (page * 16384) xs) (place + (length s - length rest)) rest (clean-put model a xs page k o h l)))

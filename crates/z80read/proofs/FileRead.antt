@@ -13,7 +13,7 @@ use Rattle.spectrum.specs.declared.Machine.{Machine}
 use Rattle.pages.specs.declared.Model.{Model}
 use Rattle.spectrum.specs.declared.Attachment.{Attachment}
 use Rattle.numbers.specs.declared.Refusal.{Refusal}
-use Rattle.numbers.specs.declared.Fault.{Fault}
+use Rattle.numbers.specs.declared.FileFault.{FileFault}
 use Rattle.numbers.specs.Faults.{unplaced}
 use Rattle.numbers.specs.declared.Refusal.the-variants.{AreaLength}
 use Rattle.numbers.specs.declared.Answer.the-variants.{Accepted, Refused}
@@ -38,7 +38,7 @@ use Rattle.z80read.specs.declared.Opened.{Opened}
 use Rattle.z80read.specs.Read.{memoryInto, ReadResult, refusedRead, afterBody, afterHead, readOf, ReadLeaves, Reads}
 
 -- what a refused read gives beside the area
-abbrev refusedOpened : Fault → Opened
+abbrev refusedOpened : FileFault → Opened
 refusedOpened fault = record { answer = Refused (fault .why); place = fault .place; machine = blankMachine }
 
 -- what follows the header, by version
@@ -57,7 +57,7 @@ at-12 v n h = let k = long-30 v n h in omega arith
 
 -- the answer of what follows the header decides
 module _ (x : BodyResult) (m : Machine) (n : ℕ) (answer : BodyAnswer) (after : List ℕ) (t : ReadsBody x answer after) where
-  pub on-refused : (fault : Fault) (r : Opened) → answer ≡ Faulty fault → r ≡ refusedOpened fault → n ≡ 131072 → ReadLeaves (afterBody x m n) r after
+  pub on-refused : (fault : FileFault) (r : Opened) → answer ≡ Faulty fault → r ≡ refusedOpened fault → n ≡ 131072 → ReadLeaves (afterBody x m n) r after
   unfolding blank
   on-refused fault r e q l = go x t
     where
@@ -66,8 +66,8 @@ module _ (x : BodyResult) (m : Machine) (n : ℕ) (answer : BodyAnswer) (after :
           let z : Faulty w ≡ Faulty fault = sym (t .0) ∙ e in
           let f : w ≡ fault = cc in
           record {
-            answer = ap (λ (o : Opened). o .answer) q ∙ sym (ap (λ (x : Fault). Refused (x .why)) f);
-            place = ap (λ (o : Opened). o .place) q ∙ sym (ap (λ (x : Fault). x .place) f);
+            answer = ap (λ (o : Opened). o .answer) q ∙ sym (ap (λ (x : FileFault). Refused (x .why)) f);
+            place = ap (λ (o : Opened). o .place) q ∙ sym (ap (λ (x : FileFault). x .place) f);
             machine = ap (λ (o : Opened). o .machine) q;
             memory = t .1 ∙ sym (ap (λ (k : ℕ). replicate k 0) l);
           }
@@ -91,7 +91,7 @@ module _ (s before clear : List ℕ) (c₀ : clear ≡ take 0 before ++ replicat
   clear-long : length clear ≡ length before
   clear-long = ap length c ∙ length-replicate (length before) 0
 
-  read-none : (o : ReadResult) (fault : Fault) (r : Opened) → r ≡ refusedOpened fault → o ≡ refusedRead fault (length before) → Reads o r clear
+  read-none : (o : ReadResult) (fault : FileFault) (r : Opened) → r ≡ refusedOpened fault → o ≡ refusedRead fault (length before) → Reads o r clear
   read-none o fault r q e =
       no-machine o (fault .why) r clear
       (record {
@@ -102,7 +102,7 @@ module _ (s before clear : List ℕ) (c₀ : clear ≡ take 0 before ++ replicat
       })
       (ap (λ (x : Opened). x .answer) q)
 
-  pub read-length : (fault : Fault) (r : Opened) → (length clear ≡ 131072 → ⊥) → fault ≡ unplaced AreaLength → r ≡ refusedOpened fault → Reads (readOf s (length before)) r clear
+  pub read-length : (fault : FileFault) (r : Opened) → (length clear ≡ 131072 → ⊥) → fault ≡ unplaced AreaLength → r ≡ refusedOpened fault → Reads (readOf s (length before)) r clear
   unfolding readOf
   read-length fault r h f q = read-none _ (unplaced AreaLength) r (q ∙ ap refusedOpened f) (rw (ne-eqb (length before) 131072 (λ e. h (clear-long ∙ e))))
 
@@ -111,7 +111,7 @@ module _ (s before clear : List ℕ) (c₀ : clear ≡ take 0 before ++ replicat
     unfolding readOf
     read-after-head = rw (eq-eqb (length before) 131072 (sym clear-long ∙ h), ← eh)
 
-    pub read-refused : (why : Refusal) (fault : Fault) (r : Opened) → head ≡ Head.Refused why → fault ≡ unplaced why → r ≡ refusedOpened fault → Reads (readOf s (length before)) r clear
+    pub read-refused : (why : Refusal) (fault : FileFault) (r : Opened) → head ≡ Head.Refused why → fault ≡ unplaced why → r ≡ refusedOpened fault → Reads (readOf s (length before)) r clear
     read-refused why fault r e f q = read-none _ (unplaced why) r (q ∙ ap refusedOpened f) (sym read-after-head ∙ ap (λ (x : Head). afterHead x s (length before)) e)
 
     pub is-blank : clear ≡ blank 131072

@@ -11,8 +11,8 @@ use Rattle.slices.proofs.Chosen.{either}
 use Rattle.spectrum.specs.declared.Machine.{Machine}
 use Rattle.pages.specs.declared.Model.{Model}
 use Rattle.numbers.specs.Numbers.{refusalNumber, numberOf}
-use Rattle.numbers.specs.Faults.{PlaceIn}
-use Rattle.numbers.proofs.Places.{nowhere}
+use Rattle.numbers.specs.Faults.{NamedPlace}
+use Rattle.numbers.proofs.FaultPlaces.{nowhere}
 use Rattle.header.specs.declared.Version.{Version}
 use Rattle.header.specs.declared.Version.the-variants.{V1, V2, V3}
 use Rattle.header.specs.declared.Head.{Head}
@@ -22,19 +22,19 @@ use Rattle.header.proofs.AcceptedHeads.{opens, head-unplaced}
 use Rattle.header_read.specs.Reading.{machineOf}
 use Rattle.blocks.specs.Blocks.{BodyResult, bodyRefused, bodyRead}
 use Rattle.blocks.proofs.BlockPlaces.{BodyPlaced, blocks-placed}
-use Rattle.body_v1.proofs.BodyPlaces.{body-placed}
+use Rattle.body_v1.proofs.BodyPlaces.{v1-placed}
 use Rattle.z80read.specs.Read.{memoryInto, ReadResult, afterBody, afterHead, readOf}
 
 -- of a file s
 abbrev pub ResultPlaced : List ℕ → ReadResult → Type 0
-ResultPlaced s o = PlaceIn (numberOf (o .answer)) (o .place) (length s)
+ResultPlaced s o = NamedPlace (numberOf (o .answer)) (o .place) (length s)
 
 -- what stands behind a header of k bytes ends where the file does
 from-header : (s : List ℕ) (k : ℕ) (x : BodyResult) → k ≤ length s → BodyPlaced (k + length (drop k s)) x → BodyPlaced (length s) x
 from-header s k x h p = let e : k + length (drop k s) ≡ length s = omega (arith, length-drop k s) in subst (λ (n : ℕ). BodyPlaced n x) e p
 
 memory-placed : (v : Version) (model : Model) (area s : List ℕ) → headerLength v ≤ length s → BodyPlaced (length s) (memoryInto v model area s)
-memory-placed V1 model area s h = from-header s 30 (memoryInto V1 model area s) h (body-placed (bitAt (byte12Of s) 32) area 30 (drop 30 s) (omega arith))
+memory-placed V1 model area s h = from-header s 30 (memoryInto V1 model area s) h (v1-placed (bitAt (byte12Of s) 32) area 30 (drop 30 s) (omega arith))
 memory-placed V2 model area s h = from-header s 55 (memoryInto V2 model area s) h (blocks-placed model area 55 (drop 55 s) (omega arith))
 memory-placed V3 model area s h = from-header s 86 (memoryInto V3 model area s) h (blocks-placed model area 86 (drop 86 s) (omega arith))
 

@@ -10,7 +10,7 @@ use Rattle.slices.specs.Choose.{choose}
 use Rattle.slices.specs.Blank.{blank}
 use Rattle.spectrum.specs.declared.Machine.{Machine}
 use Rattle.pages.specs.declared.Model.{Model}
-use Rattle.numbers.specs.declared.Fault.{Fault}
+use Rattle.numbers.specs.declared.FileFault.{FileFault}
 use Rattle.numbers.specs.declared.Refusal.the-variants.{AreaLength}
 use Rattle.numbers.specs.declared.Answer.{Answer}
 use Rattle.numbers.specs.declared.Answer.the-variants.{Accepted, Refused}
@@ -42,7 +42,7 @@ pub record ReadResult : Type 0 where
   pub memory : List ℕ
 
 -- "A refused read gives the blank machine and an area all zero", of n bytes
-abbrev pub refusedRead : Fault → ℕ → ReadResult
+abbrev pub refusedRead : FileFault → ℕ → ReadResult
 refusedRead fault n = record { answer = Refused (fault .why); place = fault .place; machine = blankMachine; memory = replicate n 0 }
 
 -- an accepted file has no place to name: "0 elsewhere"

@@ -3,7 +3,7 @@ use blocks::BodyAnswer;
 use header::Head;
 use header::Version;
 use numbers::Answer;
-use numbers::Fault;
+use numbers::FileFault;
 use numbers::Refusal;
 use pages::Model;
 use spectrum::Attachment;
@@ -92,7 +92,7 @@ fn accepted_file(machine: Machine) -> Opened
     }
 }
 
-fn refused_file(fault: Fault) -> Opened
+fn refused_file(fault: FileFault) -> Opened
     ensures { λ r. ⌜ r ≡ record { answer = Refused (fault .why); place = fault .place; machine = blankMachine } ⌝ }
 {
     let why = fault.why;

@@ -5,8 +5,8 @@ use Rattle.packing_exports.proofs.packing_unpack.Tie as tie
 unpack-requires : tie.Need-unpack-requires
 unpack-requires c κs = search needs
 
-place-in-requires : tie.Need-place-in-requires
-place-in-requires c κs = search needs
+bad-place-requires : tie.Need-bad-place-requires
+bad-place-requires c κs = search needs
 
 unpack-code-requires : tie.Need-unpack-code-requires
 unpack-code-requires c κs = search needs
@@ -19,4 +19,4 @@ returns c = (cc, (cc, search needs))
 
 pub packing-unpack-spec : {M : Type 1} → statement M
 packing-unpack-spec =
-    tie.close (tie.spec unpack-requires place-in-requires unpack-code-requires same-length returns)
+    tie.close (tie.spec unpack-requires bad-place-requires unpack-code-requires same-length returns)

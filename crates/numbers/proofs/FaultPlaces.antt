@@ -3,19 +3,19 @@ use Prim.Native.Nat.{ℕ, _<_, _≤_}
 use native.Mathlib.Omega.{arith}
 use mathlib.Core.Path.{_≡_, refl, sym, _∙_}
 use mathlib.Core.Bool.{true, false}
-use Rattle.numbers.specs.declared.Fault.{Fault}
+use Rattle.numbers.specs.declared.FileFault.{FileFault}
 use Rattle.numbers.specs.Numbers.{refusalNumber}
-use Rattle.numbers.specs.Faults.{isPlaced, PlaceIn}
+use Rattle.numbers.specs.Faults.{isPlaced, NamedPlace}
 
 not-both : true ≡ false → ⊥
 not-both e = let z : _≡_ {A = ℕ} 0 1 = cc in omega arith
 
 -- of a fault of a file of so many bytes
-abbrev pub FaultIn : Fault → ℕ → Type 0
-FaultIn fault size = PlaceIn (refusalNumber (fault .why)) (fault .place) size
+abbrev pub FaultIn : FileFault → ℕ → Type 0
+FaultIn fault size = NamedPlace (refusalNumber (fault .why)) (fault .place) size
 
-pub somewhere : (number place size : ℕ) → isPlaced number ≡ true → 0 < place → place ≤ size → PlaceIn number place size
+pub somewhere : (number place size : ℕ) → isPlaced number ≡ true → 0 < place → place ≤ size → NamedPlace number place size
 somewhere number place size t h l = record { inside = l; none = λ f. absurd (not-both (sym t ∙ f)); some = λ q. h }
 
-pub nowhere : (number size : ℕ) → isPlaced number ≡ false → PlaceIn number 0 size
+pub nowhere : (number size : ℕ) → isPlaced number ≡ false → NamedPlace number 0 size
 nowhere number size f = record { inside = omega arith; none = λ q. refl; some = λ t. absurd (not-both (sym t ∙ f)) }
