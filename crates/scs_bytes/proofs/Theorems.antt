@@ -14,14 +14,14 @@ use Rattle.file_bytes.proofs.FileSteps.{readThrough}
 use Rattle.scs_read.specs.ScsReads.{scsReadOf}
 use Rattle.scs_read.proofs.ScsReadPlaces.{scs-read-place}
 use Rattle.scs_bytes.specs.ScsBytes.{scsReadOfBytes}
-use Rattle.scs_bytes.specs.Readers.{FileFormat, z80, scs, readAs}
+use Rattle.scs_bytes.specs.Readers.{ReadFormat, z80, scs, readAs}
 use Rattle.scs_bytes.specs.Theorems.{Theorems}
 
 -- of any way to read
 through-placed : (o : ReadResult) (file : List ℕ) (n k : ℕ) → ResultPlaced file o → NamedPlace (readThrough o n k .answer) (readThrough o n k .place) (length file)
 through-placed o file n k p = either (λ (x : ReadBytes). NamedPlace (x .answer) (x .place) (length file)) (eqb k 86) _ _ (λ t. p) (λ t. nowhere 20 (length file) refl)
 
-offset-in : (format : FileFormat) (file : List ℕ) (n k : ℕ) → NamedPlace (readAs format file n k .answer) (readAs format file n k .place) (length file)
+offset-in : (format : ReadFormat) (file : List ℕ) (n k : ℕ) → NamedPlace (readAs format file n k .answer) (readAs format file n k .place) (length file)
 unfolding readOfBytes scsReadOfBytes
 offset-in z80 file n k = through-placed (readOf file n) file n k (read-place file n)
 offset-in scs file n k = through-placed (scsReadOf file n) file n k (scs-read-place file n)

@@ -5,11 +5,11 @@ use Rattle.file_bytes.specs.Files.{ReadBytes, readOfBytes}
 use Rattle.scs_bytes.specs.ScsBytes.{scsReadOfBytes}
 
 -- the formats that are read
-pub data FileFormat : Type 0 where
-  z80 : FileFormat
-  scs : FileFormat
+pub data ReadFormat : Type 0 where
+  z80 : ReadFormat
+  scs : ReadFormat
 
 -- a file of a format read into an area of n bytes and a header of k bytes
-abbrev pub readAs : FileFormat → List ℕ → ℕ → ℕ → ReadBytes
+abbrev pub readAs : ReadFormat → List ℕ → ℕ → ℕ → ReadBytes
 readAs z80 file n k = readOfBytes file n k
 readAs scs file n k = scsReadOfBytes file n k

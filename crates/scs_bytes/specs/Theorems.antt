@@ -3,8 +3,8 @@ use Prim.Native.Nat.{ℕ}
 use mathlib.Core.List.{List}
 use lib.ListN.{length}
 use Rattle.numbers.specs.Faults.{NamedPlace}
-use Rattle.scs_bytes.specs.Readers.{FileFormat, readAs}
+use Rattle.scs_bytes.specs.Readers.{ReadFormat, readAs}
 
 pub record Theorems : Type 0 where
   -- of each reader: a named offset is at most the file's length, and it is 0 exactly for the numbers that A2 does not name
-  pub offset-in : (format : FileFormat) (file : List ℕ) (n k : ℕ) → NamedPlace (readAs format file n k .answer) (readAs format file n k .place) (length file)
+  pub offset-in : (format : ReadFormat) (file : List ℕ) (n k : ℕ) → NamedPlace (readAs format file n k .answer) (readAs format file n k .place) (length file)

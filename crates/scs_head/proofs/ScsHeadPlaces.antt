@@ -17,20 +17,20 @@ use Rattle.scs_head.specs.declared.ScsHead.{ScsHead}
 use Rattle.scs_head.specs.declared.ScsHead.the-variants.{Bad, Spectrum}
 use Rattle.scs_head.specs.ScsHeads.{memoryFirst, scsHeadOf}
 
-abbrev NoPlace : ScsHead → Type 0
-NoPlace (Bad why) = isPlaced (refusalNumber why) ≡ false
-NoPlace (Spectrum model) = Unit {0}
+abbrev NoneNamed : ScsHead → Type 0
+NoneNamed (Bad why) = isPlaced (refusalNumber why) ≡ false
+NoneNamed (Spectrum model) = Unit {0}
 
-first-unplaced : (s : List ℕ) (model : Model) → NoPlace (memoryFirst s model)
-first-unplaced s model = either NoPlace (eqb (at s 15) 3) _ _ (λ t. tt) (λ t. refl)
+first-unplaced : (s : List ℕ) (model : Model) → NoneNamed (memoryFirst s model)
+first-unplaced s model = either NoneNamed (eqb (at s 15) 3) _ _ (λ t. tt) (λ t. refl)
 
-all-unplaced : (s : List ℕ) → NoPlace (scsHeadOf s)
+all-unplaced : (s : List ℕ) → NoneNamed (scsHeadOf s)
 unfolding scsHeadOf
 all-unplaced s =
-    either NoPlace (ltb (length s) 15) _ _ (λ t. refl)
-    (λ t. either NoPlace (same (take 8 s) samSnap) _ _
-    (λ u. either NoPlace (eqb (at s 14) 1) _ _ (λ v. first-unplaced s _) (λ v. either NoPlace (eqb (at s 14) 2) _ _ (λ w. first-unplaced s _) (λ w. refl)))
+    either NoneNamed (ltb (length s) 15) _ _ (λ t. refl)
+    (λ t. either NoneNamed (same (take 8 s) samSnap) _ _
+    (λ u. either NoneNamed (eqb (at s 14) 1) _ _ (λ v. first-unplaced s _) (λ v. either NoneNamed (eqb (at s 14) 2) _ _ (λ w. first-unplaced s _) (λ w. refl)))
     (λ u. refl))
 
 pub scs-head-unplaced : (s : List ℕ) (why : Refusal) → scsHeadOf s ≡ Bad why → isPlaced (refusalNumber why) ≡ false
-scs-head-unplaced s why e = subst NoPlace e (all-unplaced s)
+scs-head-unplaced s why e = subst NoneNamed e (all-unplaced s)
