@@ -1,10 +1,9 @@
 /* Two builds of the library in one process, call by call: the time of this one as a ratio of the other one's.
    The other archive's functions are linked under names that begin with other_. Run by bench/beside. */
+#include "beside.h"
 #include "snapshot.h"
 #include <stdio.h>
-#include <stdlib.h>
 #include <string.h>
-#include <time.h>
 
 typedef uint32_t reading(const uint8_t *, size_t, uint8_t *, size_t, uint8_t *, size_t, uint64_t *);
 typedef uint32_t reading_before(const uint8_t *, size_t, uint8_t *, size_t, uint8_t *, size_t);
@@ -31,19 +30,12 @@ struct build {
 static const struct build ours = { { snap_z80_read, NULL }, { snap_scs_read, NULL }, snap_z80_write, snap_correct_byte, snap_undo, snap_redo };
 static struct build theirs = { .write = other_snap_z80_write, .correct = other_snap_correct_byte, .undo = other_snap_undo, .redo = other_snap_redo };
 
-enum { ROUNDS = 41, FILES = 64, STEPS = 4096, CALLS = 512 };
+enum { FILES = 64, STEPS = 4096, CALLS = 512 };
 /* The files; each as an SCS file; those whose last block is packed, with a bad code at their end. */
 static struct loaded { uint8_t *bytes; size_t length; } files[FILES], scs_files[FILES], bad_files[FILES];
 static int count, bad_count;
 static uint8_t area[131072], head[86], out[131182], journal[STEPS * 11];
 static uint64_t size, standing, total, offset;
-
-static double now(void)
-{
-    struct timespec t;
-    clock_gettime(CLOCK_MONOTONIC, &t);
-    return t.tv_sec + t.tv_nsec * 1e-9;
-}
 
 static void fail(const char *name, const char *what)
 {
@@ -150,12 +142,6 @@ static double seconds_of(enum timed_part part, const struct build *by)
     return spent;
 }
 
-static int less(const void *a, const void *b)
-{
-    double x = *(const double *)a, y = *(const double *)b;
-    return (x > y) - (x < y);
-}
-
 static void compare(enum timed_part part, const char *name)
 {
     double ratio[ROUNDS];
@@ -165,8 +151,7 @@ static void compare(enum timed_part part, const char *name)
         else { b = seconds_of(part, &theirs); a = seconds_of(part, &ours); }
         ratio[round] = a / b;
     }
-    qsort(ratio, ROUNDS, sizeof *ratio, less);
-    printf("  %-18s %.2f\n", name, ratio[ROUNDS / 2]);
+    printf("  %-18s %.2f\n", name, median(ratio));
 }
 
 int main(int argc, char **argv)

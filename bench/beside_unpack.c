@@ -1,11 +1,10 @@
 /* The unpackers of two builds in one process: the time of this one as a ratio of the other one's, over all packed blocks of some
    files. The other archive's function is linked as other_packing_unpack. Run by bench/beside, which tells OTHER_VERSION. */
+#include "beside.h"
 #include <stdint.h>
 #include <stdio.h>
-#include <stdlib.h>
-#include <time.h>
 
-enum { ROUNDS = 41, BLOCKS = 512, FILES_ROOM = 8 << 20, PAGE = 16384 };
+enum { BLOCKS = 512, FILES_ROOM = 8 << 20, PAGE = 16384 };
 
 uint32_t packing_unpack(const uint8_t *, size_t, uint8_t *, size_t, uint64_t *);
 /* before version 400 it tells no place */
@@ -37,22 +36,14 @@ static void take_blocks(const uint8_t *file, size_t length)
     }
 }
 
-static double seconds_of(int ours)
+static double unpack_seconds(int ours)
 {
-    struct timespec start, end;
-    clock_gettime(CLOCK_MONOTONIC, &start);
+    double start = now();
     for (int i = 0; i < count; i++) {
         if (ours) packing_unpack(blocks[i].data, blocks[i].length, page, PAGE, &place);
         else OTHER_UNPACK(blocks[i].data, blocks[i].length);
     }
-    clock_gettime(CLOCK_MONOTONIC, &end);
-    return (double)(end.tv_sec - start.tv_sec) + (double)(end.tv_nsec - start.tv_nsec) * 1e-9;
-}
-
-static int less(const void *a, const void *b)
-{
-    double x = *(const double *)a, y = *(const double *)b;
-    return (x > y) - (x < y);
+    return now() - start;
 }
 
 int main(int argc, char **argv)
@@ -69,13 +60,12 @@ int main(int argc, char **argv)
     }
     if (!count) return 2;
     for (int round = 0; round < ROUNDS; round++) {
-        seconds_of(1), seconds_of(0);
+        unpack_seconds(1), unpack_seconds(0);
         double ours, theirs;
-        if (round % 2) { ours = seconds_of(1); theirs = seconds_of(0); }
-        else { theirs = seconds_of(0); ours = seconds_of(1); }
+        if (round % 2) { ours = unpack_seconds(1); theirs = unpack_seconds(0); }
+        else { theirs = unpack_seconds(0); ours = unpack_seconds(1); }
         ratio[round] = ours / theirs;
     }
-    qsort(ratio, ROUNDS, sizeof *ratio, less);
-    printf("  %-18s %.2f  (%d packed blocks)\n", "unpacking", ratio[ROUNDS / 2], count);
+    printf("  %-18s %.2f  (%d packed blocks)\n", "unpacking", median(ratio), count);
     return 0;
 }
