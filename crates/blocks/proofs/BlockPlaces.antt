@@ -36,23 +36,23 @@ module _ (place : ℕ) (s : List ℕ) (h : 0 < place) where
 
   data-placed : (d : Found) (page : ℕ) (rest : List ℕ) → ((i : ℕ) → d ≡ malformed i → 3 + i ≤ length s) → length rest ≤ length s → BlockPlaced size s (pageFrom place d page rest)
   unfolding size
-  data-placed (malformed i) page rest f l = somewhere 11 (place + 3 + i) (place + length s) refl (omega arith) (omega (arith, f i refl))
+  data-placed (malformed i) page rest f l = somewhere 11 (place + 3 + i) (place + length s) refl (λ e. omega arith) (omega arith) (omega (arith, f i refl))
   data-placed (bytes xs) page rest f l =
-      either (BlockPlaced size s) (eqb (length xs) 16384) _ _ (λ t. l) (λ t. somewhere 12 place (place + length s) refl h (omega arith))
+      either (BlockPlaced size s) (eqb (length xs) 16384) _ _ (λ t. l) (λ t. somewhere 12 place (place + length s) refl (λ e. omega arith) h (omega arith))
 
   page-placed : (p : Page) (seen : List Bool) (d : Found) (rest : List ℕ) → ((i : ℕ) → d ≡ malformed i → 3 + i ≤ length s) → length rest ≤ length s
       → BlockPlaced size s (onPage place p seen d rest)
   unfolding size
-  page-placed NoPage seen d rest f l = somewhere 9 place (place + length s) refl h (omega arith)
+  page-placed NoPage seen d rest f l = somewhere 9 place (place + length s) refl (λ e. omega arith) h (omega arith)
   page-placed (At page) seen d rest f l =
-      either (BlockPlaced size s) (getD seen page _) _ _ (λ t. somewhere 10 place (place + length s) refl h (omega arith)) (λ t. data-placed d page rest f l)
+      either (BlockPlaced size s) (getD seen page _) _ _ (λ t. somewhere 10 place (place + length s) refl (λ e. omega arith) h (omega arith)) (λ t. data-placed d page rest f l)
 
   block-placed : (model : Model) (seen : List Bool) → BlockPlaced size s (blockOf model seen place s)
   unfolding size blockOf
   block-placed model seen =
       let n = sizeOf (wordAt s 0) in
       let body = take n (drop 3 s) in
-      let cut = somewhere 8 place (place + length s) refl h (omega arith) in
+      let cut = somewhere 8 place (place + length s) refl (λ e. omega arith) h (omega arith) in
       either (BlockPlaced size s) (ltb (length s) 3) _ _ (λ t. cut)
       (λ t. either (BlockPlaced size s) (ltb (length s) (3 + n)) _ _ (λ u. cut)
       (λ u. page-placed (pageOf model (getD s 2 0)) seen (contents (eqb (wordAt s 0) 65535) body) (drop (3 + n) s)

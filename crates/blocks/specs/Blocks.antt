@@ -35,7 +35,8 @@ afterBlock (brought page xs rest) f = f page xs rest
 abbrev pub finished : Model → List Bool → List ℕ → BodyResult
 finished model seen area = choose (allThere model seen) (bodyRead area) (bodyRefused (unplaced BlockMissing))
 
--- block after block from a place of the file, where s stands, to the end; a block has three bytes or more, so as many turns as bytes are enough
+-- block after block from a place of the file, where s stands, to the end; a block has three bytes or more, so as many turns as bytes are
+-- enough
 unfoldable pub blocks : Model → ℕ → List Bool → List ℕ → ℕ → List ℕ → BodyResult
 blocks model zero seen area place s = finished model seen area
 blocks model (suc turns) seen area place s =

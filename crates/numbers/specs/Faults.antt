@@ -19,8 +19,10 @@ unplaced why = faultAt 0 why
 abbrev pub isPlaced : ℕ → Bool
 isPlaced n = eqb n 8 || eqb n 9 || eqb n 10 || eqb n 11 || eqb n 12 || eqb n 14 || eqb n 42
 
--- the place that is given with a number, of a file of so many bytes: in the file or at its end, and 0 exactly where none is named
+-- the place that is given with a number, of a file of so many bytes: in the file or at its end, 0 exactly where none is named, and "for 14 the
+-- file's length"
 pub record NamedPlace (number place size : ℕ) : Type 0 where
   pub inside : place ≤ size
   pub none : isPlaced number ≡ false → place ≡ 0
   pub some : isPlaced number ≡ true → 0 < place
+  pub at-end : number ≡ 14 → place ≡ size

@@ -26,9 +26,9 @@ found-placed s (suc turns) place seen h =
     (λ t.
     let l = leb-false (length s) place t in
     either (FoundPlaced s) (eqb (at s place) 0) _ _ (λ u. tt)
-    (λ u. either (FoundPlaced s) (ltb (length s) (place + 5)) _ _ (λ v. somewhere 8 place (length s) refl h (omega arith))
-    (λ v. either (FoundPlaced s) (ltb (length s) (place + 5 + sizeAt s (place + 1))) _ _ (λ w. somewhere 8 place (length s) refl h (omega arith))
-    (λ w. either (FoundPlaced s) (isThere (partOf seen (at s place))) _ _ (λ x. somewhere 42 place (length s) refl h (omega arith))
+    (λ u. either (FoundPlaced s) (ltb (length s) (place + 5)) _ _ (λ v. somewhere 8 place (length s) refl (λ e. omega arith) h (omega arith))
+    (λ v. either (FoundPlaced s) (ltb (length s) (place + 5 + sizeAt s (place + 1))) _ _ (λ w. somewhere 8 place (length s) refl (λ e. omega arith) h (omega arith))
+    (λ w. either (FoundPlaced s) (isThere (partOf seen (at s place))) _ _ (λ x. somewhere 42 place (length s) refl (λ e. omega arith) h (omega arith))
     (λ x. found-placed s turns _ _ (omega arith))))))
 
 pub blocks-found-placed : (s : List ℕ) (from : ℕ) → 0 < from → FoundPlaced s (scsBlocks s from)

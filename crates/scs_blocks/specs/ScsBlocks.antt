@@ -44,7 +44,8 @@ abbrev pub threeSeen : ScsSeen → Bool
 threeSeen seen = both (isThere (seen .cpu)) (both (isThere (seen .ports)) (isThere (seen .memory)))
 
 -- Block after block from a place on: "a clean stop without it is accepted"; "A byte 0 at a block's start ends the file, what follows unread";
--- "8 if cut", its head or its data; "42 a second block 1, 2 or 3"; both at the block's head. A block has five bytes or more, so as many turns as bytes are enough.
+-- "8 if cut", its head or its data; "42 a second block 1, 2 or 3"; both at the block's head. A block has five bytes or more, so as many turns
+-- as bytes are enough.
 unfoldable pub blocksFrom : List ℕ → ℕ → ℕ → ScsSeen → ScsFound
 blocksFrom s zero place seen = Blocks seen
 blocksFrom s (suc turns) place seen =
