@@ -3,9 +3,8 @@ use Prim.Native.Nat.{ℕ, _+_, _-_, _≤_, _<_}
 use native.Mathlib.Numerals.{add-one}
 use native.Mathlib.Omega.{arith}
 use mathlib.Core.Path.{_≡_, refl, sym, ap, _∙_}
-use mathlib.Core.Bool.{Bool, true, false}
 use mathlib.Core.List.{List, _++_, append-assoc, append-nil}
-use lib.ListN.{length, getD, take, drop, set, replicate, length-append, length-drop, length-set, length-replicate, length-take, replicate-append-replicate, take-append-drop}
+use lib.ListN.{length, getD, take, drop, set, replicate, length-append, length-drop, length-set, length-replicate, replicate-append-replicate, take-append-drop}
 use lib.Seq.{
   paste,
   paste-zero,
@@ -22,16 +21,13 @@ use lib.Seq.{
   drop-drop,
   drop-length,
 }
-use lib.Dec.{eqb}
-use borrow.Author.Tests.{eqb-true}
-use borrow.Rule.Slice.PartMut.{putMid, midOf, same-len-mid, post-is, mid-len, put-same}
-use Rattle.slices.specs.Choose.{choose}
+use borrow.Rule.Slice.PartMut.{putMid, midOf, post-is, mid-len, put-same}
 use Rattle.slices.specs.Blank.{blank}
 use Rattle.slices.specs.Put.{put}
 use Rattle.slices.proofs.Puts.{length-put}
-use Rattle.packed.specs.Packed.{Found, malformed, bytes, unpacked}
+use Rattle.packed.specs.Packed.{Found, unpacked}
 use Rattle.packed.specs.Packed.Promise.{bad-inside}
-use Rattle.packed.specs.Unpacking.{leftBy, Unpacks}
+use Rattle.packed.specs.Unpacking.{Unpacks}
 use Rattle.packed.specs.declared.Unpacked.{Unpacked}
 use Rattle.packed.specs.declared.Unpacked.the-variants.{Good, WrongLength, Malformed}
 use Rattle.numbers.specs.declared.Refusal.the-variants.{MalformedData, UnpackedLength}
@@ -207,30 +203,6 @@ module _ (b xs : List ℕ) (lb : length b ≡ 131072) (eb : b ≡ blank 131072) 
       ∙ ap topCleared moved-third
       ∙ zeros-on-top
       ∙ sym spread-is
-
-left-long : (u : Found) (n : ℕ) → length (leftBy u n) ≡ n
-left-long (malformed i) n = length-replicate n 0
-left-long (bytes xs) n = go (eqb (length xs) n) refl
-  where
-    go : (t : Bool) → eqb (length xs) n ≡ t → length (choose t xs (replicate n 0)) ≡ n
-    go true e = eqb-true (length xs) n e
-    go false e = length-replicate n 0
-
--- the area with its part unpacked is as long as before
-pub kept-long : (u : Found) (area : List ℕ) (r : Unpacked) (body : List ℕ) → Unpacks u (length (midOf 81920 (length area - 81920) area)) r body
-    → length (putMid 81920 (length area - 81920) area body) ≡ length area
-kept-long u area r body h = same-len-mid 81920 (length area - 81920) area body (ap length (h .memory) ∙ left-long u _)
-
-moved-long : (a : List ℕ) (from to : ℕ) → to + 16384 ≤ length a → length (pageMoved a from to) ≡ length a
-unfolding pageMoved
-moved-long a from to h = length-put a (take 16384 (drop from a)) to (simp (length-take, length-drop) (omega arith))
-
-pub settled-long : (a after : List ℕ) → length a ≡ 131072 → after ≡ settled a → length after ≡ length a
-unfolding settled topCleared
-settled-long a after l e =
-    let p = moved-long a 98304 32768 (omega arith) in
-    let q = moved-long (pageMoved a 98304 32768) 114688 0 (omega arith) in
-    ap length e ∙ simp (length-append, length-take, length-replicate) (omega arith)
 
 -- the answers of unpacking into pages 5, 6 and 7
 module _ (from : ℕ) (u : Found) (area : List ℕ) (r : Unpacked) (body : List ℕ) (h : Unpacks u (length (midOf 81920 (length area - 81920) area)) r body) (l : length area ≡ 131072)

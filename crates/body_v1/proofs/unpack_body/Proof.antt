@@ -1,8 +1,10 @@
-use Prim.Native.Nat.{_<_}
+use Prim.Native.Nat.{_-_, _<_}
 use mathlib.Core.Path.{_∙_}
 use denote.Ref.{now}
 use lib.ListN.{length}
-use Rattle.body_v1.proofs.BodyMoves.{kept-long, settled-long, body-accepted, malformed-body, wrong-body, bad-code-before}
+use borrow.Rule.Slice.PartMut.{same-len-mid}
+use Rattle.packed.specs.Packed.{unpacked}
+use Rattle.body_v1.proofs.BodyMoves.{body-accepted, malformed-body, wrong-body, bad-code-before}
 use borrow.Author.Needs.{needs}
 use Rattle.body_v1.proofs.unpack_body.Statement.{statement}
 use Rattle.body_v1.proofs.unpack_body.Tie as tie
@@ -25,16 +27,21 @@ enum-told c = search needs
 settle-requires : tie.Need-settle-requires
 settle-requires c κs =
     let b = c .before .before .before .before .before in
-    kept-long _ (now (b .before .before .before .before .args .area)) _ _ (b .unpack .ensures) ∙ b .before .before .before .before .pre .1 .0
+    let s = b .before .before .before .before in
+    same-len-mid 81920 (length (now (s .args .area)) - 81920) (now (s .args .area)) (b .unpack .last .1 .0) (b .unpack .kept .1 .0) ∙ s .pre .1 .0
 
 same-length : tie.Need-same-length
 same-length c =
     let b = c .before .before .before .before .before .before .before .before in
-    let h = kept-long _ (now (b .before .before .before .before .args .area)) _ _ (b .unpack .ensures) in
-    settled-long _ _ (h ∙ b .before .before .before .before .pre .1 .0) (c .before .before .settle .ensures) ∙ h
+    let s = b .before .before .before .before in
+    c .before .before .settle .kept .0 ∙ same-len-mid 81920 (length (now (s .args .area)) - 81920) (now (s .args .area)) (b .unpack .last .1 .0) (b .unpack .kept .1 .0)
 
 returns : tie.Need-returns
-returns c = search body-accepted
+returns c =
+    let b = c .before .before .before .before .before .before .before .before in
+    let s = b .before .before .before .before in
+    body-accepted (s .args .place) (unpacked (now (s .args .src))) (now (s .args .area)) _ _ (b .unpack .ensures) (s .pre .1 .0) (s .pre .1 .1) _
+    (c .before .before .before .before .enum-told .given .1) (c .before .before .settle .ensures)
 
 enum-known-answer : tie.Need-enum-known-answer
 enum-known-answer c = search needs
@@ -47,10 +54,15 @@ add-bad c =
 same-length-2 : tie.Need-same-length-2
 same-length-2 c =
     let b = c .before .before .before .before .before in
-    kept-long _ (now (b .before .before .before .before .args .area)) _ _ (b .unpack .ensures)
+    let s = b .before .before .before .before in
+    same-len-mid 81920 (length (now (s .args .area)) - 81920) (now (s .args .area)) (b .unpack .last .1 .0) (b .unpack .kept .1 .0)
 
 returns-2 : tie.Need-returns-2
-returns-2 c = search malformed-body
+returns-2 c =
+    let b = c .before .before .before .before .before in
+    let s = b .before .before .before .before in
+    malformed-body (s .args .place) (unpacked (now (s .args .src))) (now (s .args .area)) _ _ (b .unpack .ensures) (s .pre .1 .0) (s .pre .1 .1) _
+    (c .before .answer .given .1)
 
 enum-told-2 : tie.Need-enum-told-2
 enum-told-2 c = search needs
@@ -58,10 +70,15 @@ enum-told-2 c = search needs
 same-length-3 : tie.Need-same-length-3
 same-length-3 c =
     let b = c .before .before .before .before in
-    kept-long _ (now (b .before .before .before .before .args .area)) _ _ (b .unpack .ensures)
+    let s = b .before .before .before .before in
+    same-len-mid 81920 (length (now (s .args .area)) - 81920) (now (s .args .area)) (b .unpack .last .1 .0) (b .unpack .kept .1 .0)
 
 returns-3 : tie.Need-returns-3
-returns-3 c = search wrong-body
+returns-3 c =
+    let b = c .before .before .before .before in
+    let s = b .before .before .before .before in
+    wrong-body (s .args .place) (unpacked (now (s .args .src))) (now (s .args .area)) _ _ (b .unpack .ensures) (s .pre .1 .0) (s .pre .1 .1)
+    (c .enum-told2 .given .1)
 
 pub unpack-body-spec : {M : Type 1} → statement M
 unpack-body-spec =
