@@ -99,7 +99,9 @@ static void load(const char *name)
     files[count] = kept(bytes, file.length, 0);
     spoil(&files[count]);
     if (!both_give(0, 0, &files[count]) || !both_give(0, 1, &scs_files[count])) fail(name, "the builds do not agree");
-    if (bad_count && !both_give(11, 0, &bad_files[bad_count - 1])) fail(name, "not refused as 11 at its end");
+    if (bad_count && (!both_give(11, 0, &bad_files[bad_count - 1]) || read_by(ours.z80, &bad_files[bad_count - 1]) != 11
+                      || offset != bad_files[bad_count - 1].length - 2))
+        fail(name, "not refused as 11 at its end");
     count++;
 }
 

@@ -221,8 +221,9 @@ uint32_t snap_version(void);
  *     42                                                                the head of the block
  *     0, all others   0                                                 0
  *
- * A place is never 0 and at most file_len; only for 14 does no byte stand there. Bytes left over are 1 or 2 (SCS: 1 to 4) that
- * are too few for a head. A bad code is ED ED with a count of 0 or with fewer than two bytes behind it in its data.
+ * A place is never 0 and at most file_len; it is file_len, where no byte stands, for 14 and for 12 in a v1 file of 30 bytes.
+ * Bytes left over are 1 or 2 (SCS: 1 to 4) that are too few for a head. A bad code is ED ED with a count of 0 or with fewer
+ * than two bytes behind it in its data.
  */
 
 /*

@@ -41,7 +41,8 @@ void hint_for_scs(const struct taking *taken, char hint[HINT_SIZE]);
 uint32_t scs_block_size(const uint8_t *head);
 /* Where the block after the one at a place begins; the file's length where that one is cut. */
 size_t block_after(const uint8_t *file, size_t length, size_t at);
-/* Which block, from 1 in the order of the file, a place is in; 0 in a version 1 file, and before the first. */
+/* Which block, from 1 in the order of the file, a place is in; 0 in a version 1 file, and before the first. Bytes left over
+   behind the last block are one more. */
 unsigned block_with(const uint8_t *file, size_t length, uint64_t place);
 
 /* gzip.c: the wrapper that ASCD puts around its files. */

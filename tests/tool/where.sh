@@ -149,4 +149,4 @@ placeless_numbers() {
     patched "$work/mode3.scs" "$work/whole.scs" 51 FF
     placeless 5 <"$work/mode3.scs"
 }
-check "every other number of a file has no place, and its line is as it was" placeless_numbers
+check "every other number of a file has no place, and its line names none" placeless_numbers

@@ -1,4 +1,4 @@
--- The place of a fault lies in the file: it is not before the block's head, and not behind the file's end.
+-- The place of a fault that names one is not 0, and not behind the file's end.
 use Prim.Native.Nat.{ℕ, zero, suc, _+_, _-_, _<_, _≤_}
 use native.Mathlib.Omega.{arith}
 use mathlib.Core.Path.{_≡_, refl, subst}

@@ -8,12 +8,21 @@ ghost use Prim.Native.Nat.{_<_};
 ghost use mathlib.Core.Path.{_≡_};
 ghost use lib.ListN.{length, drop};
 ghost use Rattle.blocks.specs.Blocks.{blocksInto, bodyRefused, ReadsBody};
+ghost use Rattle.numbers.specs.Faults.{faultAt};
+ghost use Rattle.blocks.specs.declared.BodyAnswer.the-variants.{Faulty};
 ghost use Rattle.blocks.specs.Inner.{StepSays};
 
 // What reading the body of a file comes to.
 pub enum BodyAnswer {
     Whole,
     Faulty(FileFault),
+}
+
+// The body is refused, for this reason and at this place.
+pub fn faulty(why: Refusal, place: usize) -> BodyAnswer
+    ensures { λ r. ⌜ r ≡ Faulty (faultAt place why) ⌝ }
+{
+    BodyAnswer::Faulty(FileFault { why, place })
 }
 
 // Where the next block begins, or a fault.

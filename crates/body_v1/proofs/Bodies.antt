@@ -62,11 +62,11 @@ module _ (from : ℕ) (u : Found) (n : ℕ) (r : Unpacked) (body before after : 
   pub body-good : r ≡ Good → after ≡ spread before body → ReadsBody (spreadFrom from u before) Whole after
   body-good e q = let w = good-is u n 49152 r body h l e in rw (w .0, eq-eqb _ _ (w .1)) (refl, q)
 
-  pub body-malformed : (i : ℕ) → r ≡ Malformed i → after ≡ blank 131072 → ReadsBody (spreadFrom from u before) (Faulty (faultAt (from + i) MalformedData)) after
-  body-malformed i e q = rw (malformed-is u n 49152 r body h l i e) (refl, q)
+  pub body-malformed : (i : ℕ) (a : BodyAnswer) → r ≡ Malformed i → a ≡ Faulty (faultAt (from + i) MalformedData) → after ≡ blank 131072 → ReadsBody (spreadFrom from u before) a after
+  body-malformed i a e f q = rw (malformed-is u n 49152 r body h l i e) (f, q)
 
-  pub body-wrong : r ≡ WrongLength → after ≡ blank 131072 → ReadsBody (spreadFrom from u before) (Faulty (faultAt from UnpackedLength)) after
-  body-wrong e q = let w = wrong-is u n 49152 r body h l e in rw (w .1 .0, w .1 .1) (refl, q)
+  pub body-wrong : (a : BodyAnswer) → r ≡ WrongLength → a ≡ Faulty (faultAt from UnpackedLength) → after ≡ blank 131072 → ReadsBody (spreadFrom from u before) a after
+  body-wrong a e f q = let w = wrong-is u n 49152 r body h l e in rw (w .1 .0, w .1 .1) (f, q)
 
 module _ (packed : Bool) (file : List ℕ) (from : ℕ) (area after : List ℕ) where
   pub read-marked : (m : Bool) (r : BodyAnswer) → packed ≡ true → m ≡ marked (bodyFrom file from) → m ≡ true
@@ -76,17 +76,17 @@ module _ (packed : Bool) (file : List ℕ) (from : ℕ) (area after : List ℕ) 
       let z : length (bodyFrom file from) - 4 - 0 ≡ length (bodyFrom file from) - 4 = omega arith in
       rw (e, ← to-end file from, ← a, t) (rw z at h)
 
-  pub read-unmarked : (m : Bool) → packed ≡ true → m ≡ marked (bodyFrom file from) → m ≡ false → from ≤ length file → after ≡ blank 131072
-      → ReadsBody (bodyInto packed area from (drop from file)) (Faulty (faultAt (length file) EndMarker)) after
+  pub read-unmarked : (m : Bool) (r : BodyAnswer) → packed ≡ true → m ≡ marked (bodyFrom file from) → m ≡ false → from ≤ length file → r ≡ Faulty (faultAt (length file) EndMarker)
+      → after ≡ blank 131072 → ReadsBody (bodyInto packed area from (drop from file)) r after
   unfolding bodyInto
-  read-unmarked m e a t l q =
+  read-unmarked m r e a t l f q =
       let z : length file ≡ from + length (bodyFrom file from) = omega (arith, ap length (to-end file from), length-drop from file) in
-      rw (e, ← to-end file from, ← a, t) (ap (λ (n : ℕ). Faulty (faultAt n EndMarker)) z, q)
+      rw (e, ← to-end file from, ← a, t) (f ∙ ap (λ (n : ℕ). Faulty (faultAt n EndMarker)) z, q)
 
   pub read-plain : packed ≡ false → length (bodyFrom file from) ≡ 49152 → after ≡ spread area (bodyFrom file from) → ReadsBody (bodyInto packed area from (drop from file)) Whole after
   unfolding bodyInto
   read-plain e l q = rw (e, ← to-end file from, eq-eqb _ _ l) (refl, q)
 
-  pub read-wrong : packed ≡ false → (length (bodyFrom file from) ≡ 49152 → ⊥) → after ≡ blank 131072 → ReadsBody (bodyInto packed area from (drop from file)) (Faulty (faultAt from UnpackedLength)) after
+  pub read-wrong : (r : BodyAnswer) → packed ≡ false → (length (bodyFrom file from) ≡ 49152 → ⊥) → r ≡ Faulty (faultAt from UnpackedLength) → after ≡ blank 131072 → ReadsBody (bodyInto packed area from (drop from file)) r after
   unfolding bodyInto
-  read-wrong e l q = rw (e, ← to-end file from, ne-eqb _ _ l) (refl, q)
+  read-wrong r e l f q = rw (e, ← to-end file from, ne-eqb _ _ l) (f, q)

@@ -35,6 +35,7 @@ use Rattle.numbers.specs.Faults.{faultAt}
 use Rattle.body_v1.specs.Body.{spread, spreadFrom}
 use Rattle.body_v1.specs.Inner.{pageMoved, topCleared, settled}
 use Rattle.blocks.specs.Blocks.{ReadsBody}
+use Rattle.blocks.specs.declared.BodyAnswer.{BodyAnswer}
 use Rattle.blocks.specs.declared.BodyAnswer.the-variants.{Whole, Faulty}
 use Rattle.block_read.proofs.Answers.{good-is, malformed-is, refused-zeros}
 use Rattle.body_v1.proofs.Bodies.{body-good, body-malformed, body-wrong}
@@ -222,11 +223,11 @@ module _ (from : ℕ) (u : Found) (area : List ℕ) (r : Unpacked) (body : List 
       ∙ sym (take-all (length area - 81920) (drop 81920 area) (omega (arith, length-drop 81920 area))) in
       ap (putMid 81920 (length area - 81920) area) part ∙ put-same 81920 (length area - 81920) area ∙ b
 
-  pub malformed-body : (i : ℕ) → r ≡ Malformed i → ReadsBody (spreadFrom from u area) (Faulty (faultAt (from + i) MalformedData)) (putMid 81920 (length area - 81920) area body)
-  malformed-body i e = body-malformed from u _ r body area _ h body-room i e (still-zero (λ g. let z : _≡_ {A = ℕ} 0 1 = cc in omega arith))
+  pub malformed-body : (i : ℕ) (a : BodyAnswer) → r ≡ Malformed i → a ≡ Faulty (faultAt (from + i) MalformedData) → ReadsBody (spreadFrom from u area) a (putMid 81920 (length area - 81920) area body)
+  malformed-body i a e f = body-malformed from u _ r body area _ h body-room i a e f (still-zero (λ g. let z : _≡_ {A = ℕ} 0 1 = cc in omega arith))
 
-  pub wrong-body : r ≡ WrongLength → ReadsBody (spreadFrom from u area) (Faulty (faultAt from UnpackedLength)) (putMid 81920 (length area - 81920) area body)
-  wrong-body e = body-wrong from u _ r body area _ h body-room e (still-zero (λ g. let z : _≡_ {A = ℕ} 0 1 = cc in omega arith))
+  pub wrong-body : (a : BodyAnswer) → r ≡ WrongLength → a ≡ Faulty (faultAt from UnpackedLength) → ReadsBody (spreadFrom from u area) a (putMid 81920 (length area - 81920) area body)
+  wrong-body a e f = body-wrong from u _ r body area _ h body-room a e f (still-zero (λ g. let z : _≡_ {A = ℕ} 0 1 = cc in omega arith))
 
 -- a bad code is among the data
 pub bad-code-before : (src : List ℕ) (n : ℕ) (r : Unpacked) (body : List ℕ) → Unpacks (unpacked src) n r body → (i : ℕ) → r ≡ Malformed i → i < length src

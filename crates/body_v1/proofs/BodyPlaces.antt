@@ -1,4 +1,4 @@
--- The place of a fault of a v1 body lies in the body or where the file ends.
+-- The place of a fault of a v1 body is not 0, and not behind the file's end; 14 is where the file ends.
 use Prim.Native.Nat.{ℕ, _+_, _-_, _<_, _≤_}
 use native.Mathlib.Omega.{arith}
 use mathlib.Core.Path.{_≡_, refl}

@@ -1,6 +1,5 @@
 // The one stream of a v1 file read into the pages of a lent area. Above packing, through its promise alone.
 use blocks::BodyAnswer;
-use numbers::FileFault;
 use numbers::Refusal;
 use packed::Unpacked;
 ghost use Prim.Native.Nat.{_+_, _≤_};
@@ -85,19 +84,8 @@ fn unpack_body(src: &[u8], place: usize, area: &mut [u8]) -> BodyAnswer
             settle(area);
             return BodyAnswer::Whole;
         }
-        Unpacked::Malformed(i) => {
-            let bad = place + i;
-            return BodyAnswer::Faulty(FileFault {
-                why: Refusal::MalformedData,
-                place: bad,
-            });
-        }
-        Unpacked::WrongLength => {
-            return BodyAnswer::Faulty(FileFault {
-                why: Refusal::UnpackedLength,
-                place,
-            })
-        }
+        Unpacked::Malformed(i) => return blocks::faulty(Refusal::MalformedData, place + i),
+        Unpacked::WrongLength => return blocks::faulty(Refusal::UnpackedLength, place),
     }
 }
 
@@ -112,17 +100,11 @@ pub fn read_body(file: &[u8], from: usize, packed: bool, area: &mut [u8]) -> Bod
             let n = body.len() - 4;
             return unpack_body(&body[0..n], from, area);
         }
-        return BodyAnswer::Faulty(FileFault {
-            why: Refusal::EndMarker,
-            place: file.len(),
-        });
+        return blocks::faulty(Refusal::EndMarker, file.len());
     }
     if body.len() == 49152 {
         spread_out(body, area);
         return BodyAnswer::Whole;
     }
-    BodyAnswer::Faulty(FileFault {
-        why: Refusal::UnpackedLength,
-        place: from,
-    })
+    blocks::faulty(Refusal::UnpackedLength, from)
 }

@@ -10,7 +10,7 @@ use Rattle.spectrum.specs.Valid.{Typed}
 use Rattle.z80read.specs.Read.{readOf}
 
 pub record Theorems : Type 0 where
-  -- the place that is named with a number is in the file or at its end, and 0 exactly for the numbers that name none
+  -- the place that is named with a number is in the file or at its end, 0 exactly for the numbers that name none, and for 14 the file's length
   pub read-place : (s : List ℕ) (n : ℕ) → NamedPlace (numberOf (readOf s n .answer)) (readOf s n .place) (length s)
   -- of files of bytes:
   -- no accepted file is longer than a header and eight blocks of 65,534 bytes, with their heads

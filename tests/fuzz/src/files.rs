@@ -81,7 +81,7 @@ impl FormatTarget {
     }
 }
 
-/// Offsets that are about as far from the start: 0, those below 64, below 256, and so on.
+/// Offsets that are about as far from the start: those below 16, below 64, below 256, and so on.
 fn offset_case(offset: u64) -> u8 {
     let bits = u64::BITS - offset.leading_zeros();
     (bits as u8).saturating_sub(4).div_ceil(2)

@@ -1,9 +1,6 @@
-use Prim.Native.Nat.{_-_, _<_}
-use mathlib.Core.Path.{_∙_}
+use Prim.Native.Nat.{_<_}
 use denote.Ref.{now}
 use lib.ListN.{length}
-use borrow.Rule.Slice.PartMut.{same-len-mid}
-use Rattle.packed.specs.Packed.{unpacked}
 use Rattle.body_v1.proofs.BodyMoves.{body-accepted, malformed-body, wrong-body, bad-code-before}
 use borrow.Author.Needs.{needs}
 use Rattle.body_v1.proofs.unpack_body.Statement.{statement}
@@ -25,60 +22,42 @@ enum-told : tie.Need-enum-told
 enum-told c = search needs
 
 settle-requires : tie.Need-settle-requires
-settle-requires c κs =
-    let b = c .before .before .before .before .before in
-    let s = b .before .before .before .before in
-    same-len-mid 81920 (length (now (s .args .area)) - 81920) (now (s .args .area)) (b .unpack .last .1 .0) (b .unpack .kept .1 .0) ∙ s .pre .1 .0
+settle-requires c κs = search needs
 
 same-length : tie.Need-same-length
-same-length c =
-    let b = c .before .before .before .before .before .before .before .before in
-    let s = b .before .before .before .before in
-    c .before .before .settle .kept .0 ∙ same-len-mid 81920 (length (now (s .args .area)) - 81920) (now (s .args .area)) (b .unpack .last .1 .0) (b .unpack .kept .1 .0)
+same-length c = search needs
 
 returns : tie.Need-returns
-returns c =
-    let b = c .before .before .before .before .before .before .before .before in
-    let s = b .before .before .before .before in
-    body-accepted (s .args .place) (unpacked (now (s .args .src))) (now (s .args .area)) _ _ (b .unpack .ensures) (s .pre .1 .0) (s .pre .1 .1) _
-    (c .before .before .before .before .enum-told .given .1) (c .before .before .settle .ensures)
+returns c = search body-accepted
 
 enum-known-answer : tie.Need-enum-known-answer
 enum-known-answer c = search needs
 
-add-bad : tie.Need-add-bad
-add-bad c =
-    let b = c .before .before .before .before .before in
-    let h : c .before .answer .given .0 .0 < length (now (b .before .before .before .before .args .src)) = search bad-code-before in search needs
+add-faulty : tie.Need-add-faulty
+add-faulty c =
+    let s = c .before .before .before .before .before .before .before .before .before in
+    let h : c .before .answer .given .0 .0 < length (now (s .args .src)) = search bad-code-before in search needs
+
+faulty-requires : tie.Need-faulty-requires
+faulty-requires c κs = search needs
 
 same-length-2 : tie.Need-same-length-2
-same-length-2 c =
-    let b = c .before .before .before .before .before in
-    let s = b .before .before .before .before in
-    same-len-mid 81920 (length (now (s .args .area)) - 81920) (now (s .args .area)) (b .unpack .last .1 .0) (b .unpack .kept .1 .0)
+same-length-2 c = search needs
 
 returns-2 : tie.Need-returns-2
-returns-2 c =
-    let b = c .before .before .before .before .before in
-    let s = b .before .before .before .before in
-    malformed-body (s .args .place) (unpacked (now (s .args .src))) (now (s .args .area)) _ _ (b .unpack .ensures) (s .pre .1 .0) (s .pre .1 .1) _
-    (c .before .answer .given .1)
+returns-2 c = search malformed-body
 
 enum-told-2 : tie.Need-enum-told-2
 enum-told-2 c = search needs
 
+faulty-requires-2 : tie.Need-faulty-requires-2
+faulty-requires-2 c κs = search needs
+
 same-length-3 : tie.Need-same-length-3
-same-length-3 c =
-    let b = c .before .before .before .before in
-    let s = b .before .before .before .before in
-    same-len-mid 81920 (length (now (s .args .area)) - 81920) (now (s .args .area)) (b .unpack .last .1 .0) (b .unpack .kept .1 .0)
+same-length-3 c = search needs
 
 returns-3 : tie.Need-returns-3
-returns-3 c =
-    let b = c .before .before .before .before in
-    let s = b .before .before .before .before in
-    wrong-body (s .args .place) (unpacked (now (s .args .src))) (now (s .args .area)) _ _ (b .unpack .ensures) (s .pre .1 .0) (s .pre .1 .1)
-    (c .enum-told2 .given .1)
+returns-3 c = search wrong-body
 
 pub unpack-body-spec : {M : Type 1} → statement M
 unpack-body-spec =
@@ -93,9 +72,11 @@ unpack-body-spec =
     same-length
     returns
     enum-known-answer
-    add-bad
+    add-faulty
+    faulty-requires
     same-length-2
     returns-2
     enum-told-2
+    faulty-requires-2
     same-length-3
     returns-3)

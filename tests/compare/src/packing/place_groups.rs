@@ -1,7 +1,7 @@
 //! Groups that unpack data with a bad code at a known place.
 
 use super::checks::PackingChecker;
-use compare::bad_codes::{any_front, plain_front, BadData, CUT_CODES, ZERO_CODES};
+use compare::bad_codes::{any_front, looks_bad, plain_front, BadData, CUT_CODES, ZERO_CODES};
 use compare::report::{Group, Outcome};
 use reference::memory::Rng;
 use reference::packing::{unpacked, UnpackedBytes};
@@ -120,12 +120,17 @@ pub fn far_codes(group: &mut Group, check: &mut PackingChecker, rng: &mut Rng) -
 
 /// Data that are good, though a code that ends in ED and a single ED after it look bad.
 pub fn no_codes(group: &mut Group, check: &mut PackingChecker, rng: &mut Rng) -> Outcome {
+    let mut misleading = 0;
     for length in 0..=3 * PLACES {
         let src = any_front(rng, length);
         if matches!(unpacked(&src), UnpackedBytes::Malformed(_)) {
             return Err("the front is no good".into());
         }
+        misleading += usize::from(looks_bad(&src));
         check.unpack(group, &src, &[length])?;
     }
-    Ok(())
+    match misleading >= LEAST_MISLEADING {
+        true => Ok(()),
+        false => Err(format!("only {misleading} data were misleading")),
+    }
 }

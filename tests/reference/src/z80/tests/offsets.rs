@@ -150,7 +150,7 @@ fn bad_codes_in_blocks() {
     // the last code loses one byte, and two
     assert_eq!(changed(v3(), |file| cut(file, 3)), (11, 871));
     assert_eq!(changed(v3(), |file| cut(file, 2)), (11, 871));
-    // a single ED at the end is a byte too few
+    // a single ED at the end stands for itself: 63 bytes too few
     assert_eq!(changed(v3(), |file| cut(file, 1)), (12, 612));
 }
 
