@@ -28,8 +28,8 @@ extern "C" {
 #endif
 
 /* The version of this header, 10000 * major + 100 * minor + patch; snap_version answers the linked library's. */
-#define SNAP_VERSION 400u
-#define SNAP_VERSION_TEXT "0.4.0"
+#define SNAP_VERSION 500u
+#define SNAP_VERSION_TEXT "0.5.0"
 
 /* Sizes in bytes. RAM pages 0 to 7 lie in the area in that order. */
 #define SNAP_PAGE_SIZE 16384u
@@ -235,6 +235,26 @@ uint32_t snap_z80_read(const uint8_t *file, size_t file_len,
                        uint8_t *area, size_t area_len,
                        uint8_t *header, size_t header_len,
                        uint64_t *offset);
+
+/*
+ * Why a .Z80 file is refused, without an area to read it into: the number that snap_z80_read gives with buffers of the right
+ * lengths, its *offset, the ordinal of the block, and two figures.
+ *
+ *     number          *block              *found                                     *due
+ *      2              0                   the length of the file                     the least needed: 30, 32, 55 or 86
+ *      6              0                   the first bad counter, low before high     the largest that it may be
+ *      8, 9, 10, 11   that of the block   0                                          0
+ *     12              that of the block   what it unpacks to, 65,536 where more      16,384; in v1 49,152
+ *     13              0                   how many blocks are there                  3 or 8
+ *     14              1                   0                                          0
+ *     0, 3, 4, 5, 7   0                   0                                          0
+ *
+ * Blocks are counted from 1 as they stand in the file, and bytes left over are one more. The body of a v1 file is block 1; one
+ * that is not packed unpacks to itself. The low counter's largest is 17,471 for a 48K and 17,726 for a 128K, the high one's
+ * 3. Nothing depends on what stood in the four before. 1 and 20 are never answered.
+ */
+uint32_t snap_z80_explain(const uint8_t *file, size_t file_len,
+                          uint64_t *offset, uint64_t *block, uint64_t *found, uint64_t *due);
 
 /*
  * Writes the one v3 file of a machine and its memory; *length is its length, and out is zero past it.
