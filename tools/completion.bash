@@ -14,10 +14,11 @@ _snapshot() {
         -o | --output | --rom | --script | --log) ;;
         *)
             if [ "$COMP_CWORD" -eq 1 ]; then
-                offered="info view find screen edit write help --help --version"
+                offered="info check view find screen edit write help --help --version"
             elif [[ $word == -* ]]; then
                 case ${COMP_WORDS[1]} in
                     info) offered="--json --verbose" ;;
+                    check) offered="--json --quiet --verbose" ;;
                     view) offered="--rom --raw --verbose" ;;
                     find) offered="--text --hex --verbose" ;;
                     screen) offered="--scale --page --scr --force --verbose" ;;

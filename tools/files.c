@@ -56,7 +56,7 @@ enum status read_bounded(const char *path, uint8_t *bytes, size_t most, size_t *
     return status == ACCEPTED && *length > most ? unread(path, "longer than any file of its kind") : status;
 }
 
-enum status open_to_look(const char *path, struct snapshot *opened)
+enum status take_input(const char *path, struct snapshot *opened, struct taking *taken)
 {
     static uint8_t file[INPUT_MOST + 1];
     size_t length;
@@ -65,10 +65,17 @@ enum status open_to_look(const char *path, struct snapshot *opened)
                                       : read_regular(path, file, sizeof file, &length);
     if (status != ACCEPTED)
         return status;
-    struct taking taken = take_snapshot(file, length, opened);
-    if (taken.fault != NULL)
-        return unread(name, taken.fault);
-    return is_accepted(&taken) ? ACCEPTED : refused_file(name, &taken);
+    *taken = take_snapshot(file, length, opened);
+    return taken->fault != NULL ? unread(name, taken->fault) : ACCEPTED;
+}
+
+enum status open_to_look(const char *path, struct snapshot *opened)
+{
+    struct taking taken;
+    enum status status = take_input(path, opened, &taken);
+    if (status != ACCEPTED)
+        return status;
+    return is_accepted(&taken) ? ACCEPTED : refused_file(input_name(path), &taken);
 }
 
 enum status open_to_save(const char *path, enum file_kind kind, bool format_asked, struct snapshot *opened)

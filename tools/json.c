@@ -116,16 +116,21 @@ void print_json(FILE *to, const char *file, const struct snapshot *opened)
     fputs("}\n", to);
 }
 
-/* The length unwrapped is null in a file without a wrapper. */
-void print_json_refusal(FILE *to, const char *file, const struct taking *taken, const char *hint)
+/* The length unwrapped is null in a file without a wrapper. A file that is accepted is refused as 0. */
+void print_json_taking(FILE *to, const char *file, const struct taking *taken)
 {
-    fprintf(to, "{\"refused\": %u, \"offset\": %u, \"block\": %u, \"unwrapped\": ", (unsigned)taken->number,
-            (unsigned)taken->offset, block_with(taken->bytes, taken->length, taken->offset));
+    char hint[HINT_SIZE], explanation[EXPLANATION_SIZE];
+    hint_for(taken, hint);
+    explain(taken, explanation);
+    fprintf(to, "{\"refused\": %u, \"offset\": %u, \"block\": %u, \"found\": %u, \"due\": %u, \"unwrapped\": ", (unsigned)taken->number,
+            (unsigned)taken->offset, (unsigned)taken->block, (unsigned)taken->found, (unsigned)taken->due);
     if (taken->unwrapped)
         fprintf(to, "%u, \"sentence\": ", (unsigned)taken->length);
     else
         fputs("null, \"sentence\": ", to);
     print_string(to, snap_sentence(taken->number));
+    fputs(", \"explanation\": ", to);
+    print_string(to, explanation);
     if (hint[0] != 0) {
         fputs(", \"hint\": ", to);
         print_string(to, hint);

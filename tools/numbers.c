@@ -28,3 +28,16 @@ bool take_decimal(const char *text, unsigned long most, unsigned long *value)
     *value = strtoul(text, &end, 10);
     return *end == 0 && *value <= most;
 }
+
+const char *grouped(uint64_t value, char text[GROUPED_SIZE])
+{
+    char digits[GROUPED_SIZE], *to = text;
+    int count = snprintf(digits, sizeof digits, "%llu", (unsigned long long)value);
+    for (int at = 0; at < count; at++) {
+        if (at > 0 && (count - at) % 3 == 0)
+            *to++ = ',';
+        *to++ = digits[at];
+    }
+    *to = 0;
+    return text;
+}

@@ -32,18 +32,11 @@ struct taking;
 void hint_for(const struct taking *taken, char hint[HINT_SIZE]);
 
 /* scs.c: what the bytes of an SCS file say of themselves. */
-#define SCS_HEADER 15u
-#define SCS_BLOCK_HEAD 5u
 bool is_scs(const uint8_t *file, size_t length);
 void hint_for_scs(const struct taking *taken, char hint[HINT_SIZE]);
-
-/* blocks.c: the blocks of a file of either format, by their heads. */
-uint32_t scs_block_size(const uint8_t *head);
-/* Where the block after the one at a place begins; the file's length where that one is cut. */
-size_t block_after(const uint8_t *file, size_t length, size_t at);
-/* Which block, from 1 in the order of the file, a place is in; 0 in a version 1 file, and before the first. Bytes left over
-   behind the last block are one more. */
-unsigned block_with(const uint8_t *file, size_t length, uint64_t place);
+/* Which block, from 1 in the order of the file, a place is in; 0 before the first. Bytes left over behind the last block are one
+   more. */
+uint64_t scs_block_with(const uint8_t *file, size_t length, uint64_t place);
 
 /* gzip.c: the wrapper that ASCD puts around its files. */
 /* A .Z80 file may begin so too. */
@@ -55,17 +48,22 @@ const char *unwrap(const uint8_t *file, size_t length, uint8_t *inside, size_t r
 /* An SCS file has no longest. All the blocks that its description knows, each at its longest (Memory of 512K and four external
    memories of 1M, of a Sam), come to less than this, so that every file of that emulator is read or has its refusal. */
 #define INPUT_MOST (5u << 20)
-/* A fault of length or wrapper as a sentence, or NULL; then the library's number and offset, and the bytes that they are about,
+/* A fault of length or wrapper as a sentence, or NULL; then the library's number and figures, and the bytes that they are about,
    which may have been in a wrapper. */
 struct taking {
     const char *fault;
     uint32_t number;
-    uint64_t offset;
+    /* as snap_z80_explain gives them; of an SCS file found and due are 0 */
+    uint64_t offset, block, found, due;
+    enum file_kind kind;
+    /* of a .Z80 file, else 0 */
+    unsigned version;
     const uint8_t *bytes;
     size_t length;
     bool unwrapped;
 };
 bool is_accepted(const struct taking *taken);
+/* Without a snapshot to open, NULL, a file is only looked through. */
 struct taking take_snapshot(const uint8_t *file, size_t length, struct snapshot *opened);
 
 /* kept.c: what of a machine comes back from a file of a kind; what does not is told. */

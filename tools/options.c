@@ -91,13 +91,14 @@ static enum status take_option(const struct command *command, enum option_number
 static enum status take_names(const struct command *command, char **names, struct words *words)
 {
     unsigned count = 0;
+    words->all_names = names;
     for (; count < 2 && command->names[count] != NULL; count++) {
         words->names[count] = names[count];
         if (names[count] == NULL)
             return misused("'snapshot %s' needs %s; see 'snapshot %s --help'", command->name, command->names[count],
                            command->name);
     }
-    if (names[count] != NULL)
+    if (names[count] != NULL && !command->many)
         return misused("'%s' is one name too many for 'snapshot %s'; see 'snapshot %s --help'", names[count], command->name,
                        command->name);
     if (knows(command, OPTION_OUTPUT) && words->options[OPTION_OUTPUT] == NULL)
@@ -141,7 +142,7 @@ void print_form(FILE *to, const struct command *command)
 {
     size_t column = (size_t)fprintf(to, "snapshot %s", command->name);
     for (unsigned at = 0; at < 2 && command->names[at] != NULL; at++)
-        column += (size_t)fprintf(to, " %s", command->names[at]);
+        column += (size_t)fprintf(to, " %s%s", command->names[at], command->many ? ".." : "");
     for (unsigned at = 0; command->options[at] != NO_OPTION; at++) {
         bool needed = command->options[at] == OPTION_OUTPUT;
         char text[FORM_COLUMNS];

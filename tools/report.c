@@ -71,6 +71,7 @@ void warn(const char *file, const char *format, ...)
 {
     va_list arguments;
     fflush(stdout);
+    clear_progress();
     fprintf(stderr, "snapshot: %s: ", shown(file));
     va_start(arguments, format);
     vfprintf(stderr, format, arguments);

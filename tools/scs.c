@@ -4,6 +4,8 @@
 #include "tool.h"
 
 #define SCS_HARDWARE 14u
+#define SCS_HEADER 15u
+#define SCS_BLOCK_HEAD 5u
 
 enum scs_block { SCS_END, SCS_CPU, SCS_PORTS, SCS_MEMORY };
 
@@ -11,6 +13,28 @@ bool is_scs(const uint8_t *file, size_t length)
 {
     static const char scs_mark[] = "SamSnap!";
     return length >= strlen(scs_mark) && memcmp(file, scs_mark, strlen(scs_mark)) == 0;
+}
+
+static uint32_t block_size(const uint8_t *head)
+{
+    return word_at(head, 1) | (uint32_t)word_at(head, 3) << 16;
+}
+
+/* Where the block after the one at a place begins; the file's length where that one is cut. */
+static size_t block_after(const uint8_t *file, size_t length, size_t at)
+{
+    size_t left = length - at;
+    if (left < SCS_BLOCK_HEAD || left - SCS_BLOCK_HEAD < block_size(file + at))
+        return length;
+    return at + SCS_BLOCK_HEAD + block_size(file + at);
+}
+
+uint64_t scs_block_with(const uint8_t *file, size_t length, uint64_t place)
+{
+    uint64_t ordinal = 0;
+    for (size_t at = SCS_HEADER; at < length && at <= place; at = block_after(file, length, at))
+        ordinal++;
+    return ordinal;
 }
 
 static const char *block_name(unsigned number)
@@ -41,7 +65,7 @@ static void hint_for_cut(const uint8_t *head, size_t left, char hint[HINT_SIZE])
         snprintf(hint, HINT_SIZE, "its number is %u%s, and its head is cut", head[0], block_name(head[0]));
     else
         snprintf(hint, HINT_SIZE, "its number is %u%s; it says %u bytes and has %u", head[0], block_name(head[0]),
-                 (unsigned)scs_block_size(head), (unsigned)(left - SCS_BLOCK_HEAD));
+                 (unsigned)block_size(head), (unsigned)(left - SCS_BLOCK_HEAD));
 }
 
 static void hint_for_missing(const uint8_t *file, size_t length, char hint[HINT_SIZE])

@@ -19,6 +19,11 @@ static enum status run_info(const struct words *words)
     return status;
 }
 
+static enum status run_check(const struct words *words)
+{
+    return check_files(words->all_names, words->options[OPTION_JSON] != NULL, words->options[OPTION_QUIET] != NULL);
+}
+
 static enum status run_view(const struct words *words)
 {
     const char *file = words->names[0], *rom = words->options[OPTION_ROM];
@@ -124,17 +129,19 @@ static enum status run_write(const struct words *words)
 }
 
 const struct command command_table[] = {
-    {"info", {"FILE"}, {OPTION_JSON, OPTION_VERBOSE}, run_info, "the machine, and what the file says of itself"},
-    {"view", {"FILE", "PAGE|ADDRESS..ADDRESS"}, {OPTION_ROM, OPTION_RAW, OPTION_VERBOSE}, run_view,
+    {"info", {"FILE"}, false, {OPTION_JSON, OPTION_VERBOSE}, run_info, "the machine, and what the file says of itself"},
+    {"check", {"FILE"}, true, {OPTION_JSON, OPTION_QUIET, OPTION_VERBOSE}, run_check,
+     "whether each file, or each in a folder, is good, or why it is refused"},
+    {"view", {"FILE", "PAGE|ADDRESS..ADDRESS"}, false, {OPTION_ROM, OPTION_RAW, OPTION_VERBOSE}, run_view,
      "a page, 0 to 7 RAM, 8 and 9 ROM, or hexadecimal addresses, as hex and text"},
-    {"find", {"FILE", "TEXT|HEX"}, {OPTION_TEXT, OPTION_HEX, OPTION_VERBOSE}, run_find,
+    {"find", {"FILE", "TEXT|HEX"}, false, {OPTION_TEXT, OPTION_HEX, OPTION_VERBOSE}, run_find,
      "every place of a text, or of bytes as an even number of hex digits"},
-    {"screen", {"FILE", "OUT"}, {OPTION_SCALE, OPTION_PAGE, OPTION_SCR, OPTION_FORCE, OPTION_VERBOSE}, run_screen,
+    {"screen", {"FILE", "OUT"}, false, {OPTION_SCALE, OPTION_PAGE, OPTION_SCR, OPTION_FORCE, OPTION_VERBOSE}, run_screen,
      "the picture on the saved screen, as a PNG"},
-    {"edit", {"FILE"},
+    {"edit", {"FILE"}, false,
      {OPTION_OUTPUT, OPTION_FORMAT, OPTION_SCRIPT, OPTION_LOG, OPTION_NEW_LOG, OPTION_FORCE, OPTION_VERBOSE}, run_edit,
      "corrections, undo and redo, from a prompt or a script"},
-    {"write", {"FILE"}, {OPTION_OUTPUT, OPTION_FORMAT, OPTION_FORCE, OPTION_VERBOSE}, run_write,
+    {"write", {"FILE"}, false, {OPTION_OUTPUT, OPTION_FORMAT, OPTION_FORCE, OPTION_VERBOSE}, run_write,
      "the same machine and memory as a version 3 .Z80 file, or as SCS"},
 };
 const size_t command_count = sizeof command_table / sizeof command_table[0];
@@ -154,6 +161,7 @@ const struct option_form option_table[OPTIONS] = {
     [OPTION_LOG] = {"--log", "LOG", "the file of the correction log"},
     [OPTION_NEW_LOG] = {"--new-log", NULL, "begins with an empty log, whatever is kept"},
     [OPTION_FORCE] = {"--force", NULL, "replaces what is of another kind, in gzip, changed, or may not be written"},
+    [OPTION_QUIET] = {"--quiet", NULL, "no line for a file that is good"},
     [OPTION_VERBOSE] = {"--verbose", NULL, "where a file is refused, with the bytes around that place"},
 };
 
@@ -162,7 +170,7 @@ static void print_usage(FILE *to)
     for (size_t at = 0; at < command_count; at++)
         print_form(to, &command_table[at]);
     fputs("snapshot help [COMMAND], snapshot [COMMAND] --help, snapshot --version\n"
-          "FILE is a .Z80 or SCS file, plain or in gzip.\n"
+          "FILE is a .Z80 or SCS file, plain or in gzip; in check it may be a folder.\n"
           "FILE may be -, standard input; OUT may be -, standard output; not in edit.\n"
           "Exit status: 0 accepted, 1 refused, 2 wrong use, 3 system error.\n"
           "See snapshot(1).\n", to);

@@ -35,6 +35,12 @@ void tell_with_bytes(void);
 enum status unread(const char *file, const char *sentence);
 enum status unread_errno(const char *file, const char *doing);
 enum status refused_file(const char *file, const struct taking *taken);
+/* A file that was looked through, good or not, as a line of a report on standard output. */
+void explained_file(const char *file, const struct taking *taken);
+
+/* explain.c: a file that was looked through, as one sentence with its figures, without its number. */
+#define EXPLANATION_SIZE 500u
+void explain(const struct taking *taken, char text[EXPLANATION_SIZE]);
 
 /* where.c: the place at which a file is refused; there may be none. */
 #define WHERE_SIZE 100u
@@ -48,6 +54,8 @@ void show_around(FILE *to, const char *file, const struct taking *taken);
 enum status read_bounded(const char *path, uint8_t *bytes, size_t most, size_t *length);
 /* Reads until the end, or until there is no more room; -1 for an error. */
 long read_up_to(int from, uint8_t *bytes, size_t room);
+/* Reads a file, or standard input, and takes it as a snapshot; what is no snapshot is told, but no refusal. */
+enum status take_input(const char *path, struct snapshot *opened, struct taking *taken);
 /* Opens a file, or standard input, to look at it; open_to_save() also tells what will be different when it is saved. */
 enum status open_to_look(const char *path, struct snapshot *opened);
 enum status open_to_save(const char *path, enum file_kind kind, bool format_asked, struct snapshot *opened);
@@ -137,14 +145,17 @@ enum status page_bytes(const char *file, const struct snapshot *opened, unsigned
 void print_info(FILE *to, const char *file, const struct snapshot *opened);
 void print_file_info(FILE *to, const char *file, const struct snapshot *opened);
 void print_json(FILE *to, const char *file, const struct snapshot *opened);
-void print_json_refusal(FILE *to, const char *file, const struct taking *taken, const char *hint);
+void print_json_taking(FILE *to, const char *file, const struct taking *taken);
 void print_json_error(FILE *to, const char *file, const char *sentence);
 unsigned bytes_not_zero(const struct snapshot *opened, unsigned page);
 
 /* numbers.c: numbers as people write them: hexadecimal with or without 0x, $ or # before it, and decimal. */
+#define GROUPED_SIZE 32u
 const char *after_hex_mark(const char *text);
 bool take_hex(const char *text, unsigned long most, unsigned long *value);
 bool take_decimal(const char *text, unsigned long most, unsigned long *value);
+/* In decimal, with a comma before each three digits. */
+const char *grouped(uint64_t value, char text[GROUPED_SIZE]);
 
 /* range.c: what a view is asked for: a page, or the addresses from first to last. */
 struct view_range {
@@ -251,19 +262,43 @@ void keep_history(void);
 /* edit.c: a session from a prompt, or from a script where it is not NULL. log is NULL or the log's file. */
 enum status edit(const struct edit_words *words);
 
+/* folders.c: the files to look at: those that are named, and in folders those whose names are a snapshot's. */
+struct file_list {
+    char **paths;
+    /* unread: folders and what is in them that could not be read, which is told */
+    size_t count, room, unread;
+};
+/* Adds what a name stands for: a file, or a folder's files in the order of their names. */
+void add_files(struct file_list *list, const char *name);
+void drop_files(struct file_list *list);
+
+/* progress.c: how far a long run is, on one line of standard error where that is a terminal. */
+void show_progress(size_t done, size_t count, const char *file);
+void clear_progress(void);
+/* Before a line of standard output, which may be the same terminal. */
+void clear_for_output(void);
+
+/* check.c: every file that is named or in a folder, explained; NULL ends the names. */
+enum status check_files(char *const *names, bool json, bool quiet);
+
 /* options.c: the command line, by the tables in snapshot.c. */
 enum option_number {
     NO_OPTION, OPTION_JSON, OPTION_ROM, OPTION_RAW, OPTION_TEXT, OPTION_HEX, OPTION_SCALE, OPTION_PAGE, OPTION_SCR,
-    OPTION_OUTPUT, OPTION_FORMAT, OPTION_SCRIPT, OPTION_LOG, OPTION_NEW_LOG, OPTION_FORCE, OPTION_VERBOSE, OPTIONS
+    OPTION_OUTPUT, OPTION_FORMAT, OPTION_SCRIPT, OPTION_LOG, OPTION_NEW_LOG, OPTION_FORCE, OPTION_QUIET, OPTION_VERBOSE,
+    OPTIONS
 };
 /* An option's value is NULL where it is not given, and not NULL where it is given and takes none. */
 struct words {
     const char *names[2];
+    /* all that are given; NULL ends them */
+    char *const *all_names;
     const char *options[OPTIONS];
     bool help;
 };
 struct command {
     const char *name, *names[2];
+    /* more names may follow */
+    bool many;
     enum option_number options[8];
     enum status (*run)(const struct words *words);
     const char *about;

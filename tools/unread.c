@@ -1,4 +1,5 @@
-/* unread.c: what is said of an input that is not accepted: a line on standard error, or JSON where that is asked for. */
+/* unread.c: what is said of an input that is not accepted: a line on standard error, or JSON where that is asked for; and of any
+ * input that is explained. */
 #include <errno.h>
 #include <string.h>
 
@@ -20,6 +21,7 @@ enum status unread(const char *file, const char *sentence)
 {
     if (!as_json)
         return cannot(file, sentence);
+    clear_for_output();
     print_json_error(stdout, file, sentence);
     return SYSTEM;
 }
@@ -33,18 +35,40 @@ enum status unread_errno(const char *file, const char *doing)
     return unread(file, sentence);
 }
 
+static void tell_bytes(const char *file, const struct taking *taken)
+{
+    if (!with_bytes)
+        return;
+    fflush(stdout);
+    clear_progress();
+    show_around(stderr, file, taken);
+}
+
 enum status refused_file(const char *file, const struct taking *taken)
 {
     char hint[HINT_SIZE], where[WHERE_SIZE];
     hint_for(taken, hint);
     where_refused(taken, where);
     if (as_json)
-        print_json_refusal(stdout, file, taken, hint);
+        print_json_taking(stdout, file, taken);
     else
         warn(file, hint[0] == 0 ? "refused, %u%s: %s" : "refused, %u%s: %s (%s)", (unsigned)taken->number, where,
              snap_sentence(taken->number), hint);
-    fflush(stdout);
-    if (with_bytes)
-        show_around(stderr, file, taken);
+    tell_bytes(file, taken);
     return REFUSED;
+}
+
+void explained_file(const char *file, const struct taking *taken)
+{
+    char explanation[EXPLANATION_SIZE];
+    explain(taken, explanation);
+    clear_for_output();
+    if (as_json)
+        print_json_taking(stdout, file, taken);
+    else if (is_accepted(taken))
+        printf("%s: %s\n", shown(file), explanation);
+    else
+        printf("%s: refused, %u: %s\n", shown(file), (unsigned)taken->number, explanation);
+    if (!is_accepted(taken))
+        tell_bytes(file, taken);
 }

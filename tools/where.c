@@ -6,12 +6,12 @@
 #define ROWS 5
 #define ROWS_BEFORE 2
 
+/* The one body of a version 1 file is no block to a reader. */
 void where_refused(const struct taking *taken, char text[WHERE_SIZE])
 {
-    unsigned block = block_with(taken->bytes, taken->length, taken->offset);
-    char in_block[20] = "";
-    if (block > 0)
-        snprintf(in_block, sizeof in_block, " (block %u)", block);
+    char in_block[32] = "";
+    if (taken->block > 0 && taken->version != 1)
+        snprintf(in_block, sizeof in_block, " (block %u)", (unsigned)taken->block);
     text[0] = 0;
     if (taken->offset != 0)
         snprintf(text, WHERE_SIZE, " at byte %u%s%s", (unsigned)taken->offset,
