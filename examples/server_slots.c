@@ -13,20 +13,23 @@ static struct server_slot {
     uint8_t header[SNAP_HEADER_SIZE], area[SNAP_AREA_SIZE];
 } slots[SLOTS];
 
+/* A line may break: then only so many bytes have arrived. */
 static const struct request {
     const char *file;
     uint8_t page;
+    size_t arrived;
 } requests[] = {
-    {"museum-128k.z80", 0}, {"museum-128k.z80", 1}, {"museum-128k.z80", 3}, {"museum-128k.z80", 4},
-    {"museum-48k.z80", 2},  {"museum-48k.z80", 1},  {"picture.txt", 5},     {"museum-128k.z80", 6},
+    {"museum-128k.z80", 0, SIZE_MAX}, {"museum-128k.z80", 1, SIZE_MAX}, {"museum-128k.z80", 3, SIZE_MAX},
+    {"museum-128k.z80", 4, SIZE_MAX}, {"museum-48k.z80", 2, SIZE_MAX},  {"museum-48k.z80", 1, SIZE_MAX},
+    {"picture.txt", 5, SIZE_MAX},     {"museum-128k.z80", 6, SIZE_MAX}, {"museum-48k.z80", 5, 70},
 };
 
 static uint8_t file[SNAP_READ_MOST + 1];
 
-/* What the visitor is told: a page, or a number with the place in the file, 0 where there is none. */
+/* What the visitor gets: a page, or a number. */
 struct served {
     uint32_t number;
-    uint64_t offset, length;
+    uint64_t length;
     const uint8_t *page;
 };
 
@@ -35,8 +38,8 @@ static struct served serve(size_t file_length, uint8_t asked, struct server_slot
 {
     static uint8_t rom[SNAP_ROM_SIZE_128K];
     struct served served = {0};
-    served.number = snap_z80_read(file, file_length, slot->area, sizeof slot->area, slot->header, sizeof slot->header,
-                                  &served.offset);
+    uint64_t offset;
+    served.number = snap_z80_read(file, file_length, slot->area, sizeof slot->area, slot->header, sizeof slot->header, &offset);
     if (served.number != SNAP_ACCEPTED)
         return served;
     uint8_t model, attachment, in_rom;
@@ -58,6 +61,19 @@ static unsigned left_over(const struct server_slot *slot, unsigned page)
     return count;
 }
 
+/* Why the visitor's file is refused. Where only its page is, the file is good and every figure 0. */
+static void print_refusal(size_t file_length, uint32_t number)
+{
+    uint64_t offset, block, found, due;
+    snap_z80_explain(file, file_length, &offset, &block, &found, &due);
+    printf("refused, %u", (unsigned)number);
+    if (block != 0)
+        printf(" in block %u, at byte %u", (unsigned)block, (unsigned)offset);
+    printf(": %s", snap_sentence(number));
+    if (due != 0)
+        printf(", %u found, %u due", (unsigned)found, (unsigned)due);
+}
+
 static void answer(size_t file_length, uint8_t asked, struct server_slot *slot)
 {
     struct served served = serve(file_length, asked, slot);
@@ -66,10 +82,8 @@ static void answer(size_t file_length, uint8_t asked, struct server_slot *slot)
         printf("%u bytes, from %02X %02X %02X %02X on\n", (unsigned)served.length, page[0], page[1], page[2], page[3]);
         return;
     }
-    printf("refused, %u", (unsigned)served.number);
-    if (served.offset != 0)
-        printf(" at byte %llu", (unsigned long long)served.offset);
-    printf(": %s; bytes left in its place: %u\n", snap_sentence(served.number), left_over(slot, asked));
+    print_refusal(file_length, served.number);
+    printf("; bytes left in its place: %u\n", left_over(slot, asked));
 }
 
 int main(int argc, char **argv)
@@ -79,6 +93,8 @@ int main(int argc, char **argv)
     for (unsigned k = 0; k < sizeof requests / sizeof requests[0]; k++) {
         size_t file_length;
         int error = load(folder, requests[k].file, file, sizeof file, &file_length);
+        if (file_length > requests[k].arrived)
+            file_length = requests[k].arrived;
         printf("slot %u  %s page %u: ", k % SLOTS, requests[k].file, requests[k].page);
         if (error == 0) {
             answer(file_length, requests[k].page, &slots[k % SLOTS]);

@@ -124,7 +124,7 @@ verbose_words() {
     run_tool 2 info "$file" --verbose --verbose
     [ "$(cat "$work/err")" = "snapshot: '--verbose' is given twice" ]
     run_tool 0 help
-    [ "$(grep -cF '[--verbose]' "$work/out")" -eq 6 ]
-    [ "$(grep -cF '.Op Fl -verbose' tools/snapshot.1)" -eq 6 ]
+    [ "$(grep -cF '[--verbose]' "$work/out")" -eq 7 ]
+    [ "$(grep -cF '.Op Fl -verbose' tools/snapshot.1)" -eq 7 ]
 }
 check "--verbose changes nothing of a file that is accepted, nor of what has no place" verbose_words

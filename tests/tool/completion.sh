@@ -8,10 +8,10 @@ offers() {
 
 completed_words() {
     local command
-    [ "$(offers snapshot '')" = "--help --version edit find help info screen view write" ]
+    [ "$(offers snapshot '')" = "--help --version check edit find help info screen view write" ]
     [ "$(offers snapshot --)" = "--help --version" ]
     [ "$(offers snapshot e)" = edit ]
-    for command in info view find screen edit write; do
+    for command in info check view find screen edit write; do
         # the options that the tool's own help has
         run_tool 0 "$command" --help
         { sed -nE 's/^    (-[-a-z]+).*$/\1/p' "$work/out"; echo --help; } | sort | paste -s -d ' ' >"$work/options"

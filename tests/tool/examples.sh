@@ -40,7 +40,7 @@ missing_or_short() {
     "$work/server_slots" "$folder" >"$work/out" || status=$?
     [ "$status" -eq 1 ]
     [ "$(grep -cF 'museum-48k.z80 page 2: cannot be read: No such file or directory' "$work/out")" -eq 1 ]
-    grep -qF 'picture.txt page 5: refused, 2: the file is shorter than its header; bytes left in its place: 0' "$work/out"
+    grep -qF 'picture.txt page 5: refused, 2: the file is shorter than its header, 10 found, 30 due; bytes left in its place: 0' "$work/out"
     rm "$folder/museum-128k.z80"
     status=0
     "$work/corrections" "$folder" 2>"$work/err" || status=$?
@@ -61,6 +61,6 @@ cut_file() {
     [ "$status" -eq 1 ]
     printf 'museum-128k.z80: %s\n' "at byte $place" 'refused, 8: a block is cut short' | diff - "$work/err"
     "$work/server_slots" "$folder" >"$work/out" || true
-    grep -qF "museum-128k.z80 page 0: refused, 8 at byte $place: a block is cut short" "$work/out"
+    grep -qF "museum-128k.z80 page 0: refused, 8 in block 8, at byte $place: a block is cut short" "$work/out"
 }
 check "an example tells where a file is cut" cut_file

@@ -30,10 +30,11 @@ told_in_json() {
     [ "$(jq -c '[.unwrapped, .refused, .offset, .block]' "$work/out")" = "[$1,$2,$3,$4]" ]
     [ ! -s "$work/err" ]
 }
-# refused_at NUMBER OFFSET BLOCK: standard input is a file that is refused there, plain and in gzip, as a file and on a pipe.
+# refused_at NUMBER OFFSET BLOCK [LINE]: standard input is a file that is refused there, plain and in gzip, as a file and on a
+# pipe. With 'body' its lines name no block.
 refused_at() {
-    local in_block='' file=$work/at.file name length
-    [ "$3" -eq 0 ] || in_block=" (block $3)"
+    local in_block=" (block $3)" file=$work/at.file name length
+    [ "${4:-}" != body ] || in_block=''
     cat >"$file"
     length=$(stat -c %s "$file")
     gzip -c "$file" >"$file.gz"
@@ -88,14 +89,14 @@ check "the place of 8, 9, 10, 11 and 12 in the last block, and behind it" last_b
 
 version_1_places() {
     local end='\0\xED\xED\0'
-    { printf 'ab\xED\xED\0c'; printf "$end"; } | as_v1 | refused_at 11 32 0
-    { zero_page; zero_page; printf '\xED\xED\1'; printf "$end"; } | as_v1 | refused_at 11 550 0
-    { zero_page; printf "$end"; } | as_v1 | refused_at 12 30 0
-    printf "$end" | as_v1 | refused_at 12 30 0
-    head -c -1 "$work/plain1.z80" | refused_at 12 30 0
-    head -c 30 "$work/plain1.z80" | refused_at 12 30 0
-    { zero_page; zero_page; zero_page; } | as_v1 | refused_at 14 810 0
-    : | as_v1 | refused_at 14 30 0
+    { printf 'ab\xED\xED\0c'; printf "$end"; } | as_v1 | refused_at 11 32 1 body
+    { zero_page; zero_page; printf '\xED\xED\1'; printf "$end"; } | as_v1 | refused_at 11 550 1 body
+    { zero_page; printf "$end"; } | as_v1 | refused_at 12 30 1 body
+    printf "$end" | as_v1 | refused_at 12 30 1 body
+    head -c -1 "$work/plain1.z80" | refused_at 12 30 1 body
+    head -c 30 "$work/plain1.z80" | refused_at 12 30 1 body
+    { zero_page; zero_page; zero_page; } | as_v1 | refused_at 14 810 1 body
+    : | as_v1 | refused_at 14 30 1 body
 }
 check "the place of 11, 12 and 14 in version 1, which has no blocks" version_1_places
 

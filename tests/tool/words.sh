@@ -11,7 +11,7 @@ helps() {
     diff "$work/help" "$work/out"
     run_tool 0 help
     diff "$work/help" "$work/out"
-    for command in info view find screen edit write; do
+    for command in info check view find screen edit write; do
         run_tool 0 "$command" --help
         [ ! -s "$work/err" ]
         cp "$work/out" "$work/one"
@@ -70,6 +70,12 @@ write -o a.z80 b.z80 --output=c.z80|'-o' is given twice
 info a.z80 b.z80 c.z80|'b.z80' is one name too many for 'snapshot info'
 screen a.z80 b.png c.png|'c.png' is one name too many for 'snapshot screen'
 info|'snapshot info' needs FILE
+check|'snapshot check' needs FILE
+check --json --quiet|'snapshot check' needs FILE
+check a.z80 -o b.z80|'snapshot check' does not take '-o'; 'snapshot edit' does
+check a.z80 --quiet=1|'--quiet' takes no value
+check - a.z80 -|'-' is given twice
+info a.z80 --quiet|'snapshot info' does not take '--quiet'; 'snapshot check' does
 view|'snapshot view' needs FILE
 view a.z80|'snapshot view' needs PAGE|ADDRESS..ADDRESS
 find a.z80|'snapshot find' needs TEXT|HEX
