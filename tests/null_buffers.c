@@ -27,6 +27,14 @@ static void expect_no_place(const char *what, uint32_t got, uint32_t due)
     place = UINT64_MAX;
 }
 
+static void expect_why(void)
+{
+    uint64_t block = 7, found = 7, due = 7;
+    expect_no_place("explain, no file", snap_z80_explain(NULL, 0, &place, &block, &found, &due), 2);
+    expect("its block and what is found", block != 0 || found != 0, 0);
+    expect("what is due", (uint32_t)due, 30);
+}
+
 static void expect_scs(void)
 {
     uint64_t length = 7;
@@ -50,6 +58,7 @@ int main(void)
     expect_no_place("no area", snap_z80_read(file, sizeof file, NULL, 0, header, sizeof header, &place), 1);
     expect_no_place("no header", snap_z80_read(file, sizeof file, area, sizeof area, NULL, 0, &place), 20);
     expect_no_place("a blank header", snap_z80_read(NULL, 0, NULL, 0, header, sizeof header, &place), 1);
+    expect_why();
     expect("write, no header", snap_z80_write(NULL, 0, area, sizeof area, file, sizeof file, &length), 20);
     expect("write, no area", snap_z80_write(header, sizeof header, NULL, 0, file, sizeof file, &length), 21);
     expect("write, no output", snap_z80_write(header, sizeof header, area, sizeof area, NULL, 0, &length), 22);

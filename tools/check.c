@@ -17,12 +17,13 @@ static void interrupt(int number)
     is_interrupted = 1;
 }
 
-/* The first Ctrl-C ends the run after the file that it comes in, the second at once. */
+/* The first Ctrl-C ends the run after the file that it comes in, the second at once. What was told to ignore it goes on. */
 static void heed_interrupt(void)
 {
-    struct sigaction action = {.sa_handler = interrupt, .sa_flags = (int)SA_RESETHAND};
+    struct sigaction before, action = {.sa_handler = interrupt, .sa_flags = (int)(SA_RESETHAND | SA_RESTART)};
     sigemptyset(&action.sa_mask);
-    sigaction(SIGINT, &action, NULL);
+    if (sigaction(SIGINT, NULL, &before) == 0 && before.sa_handler != SIG_IGN)
+        sigaction(SIGINT, &action, NULL);
 }
 
 static void check_file(const char *path, bool quiet, struct check_counts *counts)

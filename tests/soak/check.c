@@ -47,6 +47,15 @@ void expect_read(const struct server_slot *slot, uint32_t number, struct refused
     expect("the offset", slot->offset, due.offset);
 }
 
+/* The file explained: number and offset as they are read, and figures that go with them. */
+void expect_explained(const uint8_t *file, size_t length, struct refused_at due)
+{
+    struct explained given = explained_dirt;
+    expect("explain", snap_z80_explain(file, length, &given.offset, &given.block, &given.found, &given.due), due.number);
+    expect("that what is explained goes with it", (uint64_t)is_explained(due, given, file, length), 1);
+    bytes_checked += sizeof given;
+}
+
 /* After a refused read: no memory, and the blank machine, whose counters are 443F and 3. */
 void expect_refused(const struct server_slot *slot)
 {

@@ -21,6 +21,7 @@ static void read_request(struct server_slot *slot, uint64_t *seed)
 {
     make(&made, seed);
     expect_read(slot, read_file(slot), (struct refused_at){0});
+    expect_explained(made.file, made.length, (struct refused_at){0});
     expect_made(slot);
 }
 
@@ -30,6 +31,7 @@ static void damaged_request(struct server_slot *slot, uint64_t *seed)
     make(&made, seed);
     struct refused_at due = damage_file(&made, seed);
     expect_read(slot, read_file(slot), due);
+    expect_explained(made.file, made.length, due);
     expect_refused(slot);
 }
 

@@ -60,6 +60,7 @@ void expect_bytes(const char *what, const uint8_t *given, const uint8_t *due, si
 void expect_zero(const char *what, const uint8_t *given, size_t length);
 void expect_read(const struct server_slot *slot, uint32_t number, struct refused_at due);
 void expect_refused(const struct server_slot *slot);
+void expect_explained(const uint8_t *file, size_t length, struct refused_at due);
 
 /* stored.c: files read once into a clean area, and again into dirty slots. */
 void store(const char *name);

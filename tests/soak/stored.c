@@ -21,10 +21,15 @@ static void fail(const char *what, const char *name)
     exit(1);
 }
 
+static int is_scs_file(const struct stored_file *stored)
+{
+    return stored->length >= 8 && memcmp(stored->file, "SamSnap!", 8) == 0;
+}
+
 static uint32_t read_into(const struct stored_file *stored, uint8_t *area, uint8_t *header, uint64_t *offset)
 {
     *offset = OFFSET_DIRT;
-    if (stored->length >= 8 && memcmp(stored->file, "SamSnap!", 8) == 0)
+    if (is_scs_file(stored))
         return snap_scs_read(stored->file, stored->length, area, SNAP_AREA_SIZE, header, SNAP_HEADER_SIZE, offset);
     return snap_z80_read(stored->file, stored->length, area, SNAP_AREA_SIZE, header, SNAP_HEADER_SIZE, offset);
 }
@@ -58,6 +63,8 @@ void stored_request(struct server_slot *slot, uint64_t *seed)
 {
     const struct stored_file *stored = &files[next(seed) % count];
     expect_read(slot, read_into(stored, slot->area, slot->header, &slot->offset), stored->first);
+    if (!is_scs_file(stored))
+        expect_explained(stored->file, stored->length, stored->first);
     if (stored->first.number != 0)
         expect_refused(slot);
     expect_bytes("area", slot->area, stored->area, SNAP_AREA_SIZE);

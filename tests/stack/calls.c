@@ -2,9 +2,9 @@
 #include "stack.h"
 
 const char *const function_names[FUNCTIONS] = {
-    "snap_z80_read",     "snap_z80_write",    "snap_scs_read",    "snap_scs_write", "snap_view", "snap_log_start",
-    "snap_correct_byte", "snap_correct_pair", "snap_correct_out", "snap_undo",      "snap_redo", "snap_version",
-    "snap_model",        "snap_pair",         "snap_place",
+    "snap_z80_read",  "snap_z80_explain",  "snap_z80_write",    "snap_scs_read",    "snap_scs_write", "snap_view",
+    "snap_log_start", "snap_correct_byte", "snap_correct_pair", "snap_correct_out", "snap_undo",      "snap_redo",
+    "snap_version",   "snap_model",        "snap_pair",         "snap_place",
 };
 
 int is_128(const uint8_t *header)
@@ -53,6 +53,10 @@ uint32_t make_call(struct lent_buffers *lent, const struct tried_call *call)
         lent->place = OFFSET_DIRT;
         return snap_z80_read(call->file, call->file_len, lent->area, call->area_len, lent->header, call->header_len,
                              &lent->place);
+    case EXPLAIN:
+        lent->explained = explained_dirt;
+        return snap_z80_explain(call->file, call->file_len, &lent->explained.offset, &lent->explained.block,
+                                &lent->explained.found, &lent->explained.due);
     case WRITE:
         return snap_z80_write(lent->header, call->header_len, lent->area, call->area_len, lent->out, call->out_len,
                               &lent->length);

@@ -21,7 +21,7 @@ static struct tally {
 
 /* Every number that each function can give. */
 static const uint8_t numbers[FUNCTIONS][20] = {
-    {0, 1, 2, 3, 4, 5, 6, 7, 8, 9, 10, 11, 12, 13, 14, 20}, {0, 20, 21, 22},
+    {0, 1, 2, 3, 4, 5, 6, 7, 8, 9, 10, 11, 12, 13, 14, 20}, {0, 2, 3, 4, 5, 6, 7, 8, 9, 10, 11, 12, 13, 14}, {0, 20, 21, 22},
     {0, 1, 2, 5, 8, 20, 40, 41, 42, 43}, {0, 20, 21, 22}, {0, 20, 21, 30, 31}, {0},
     {0, 20, 21, 23, 26, 29}, {0, 20, 21, 26, 29, 32}, {0, 20, 21, 24, 25, 26, 29},
     {0, 20, 21, 27, 28, 29}, {0, 20, 21, 27, 28, 29}, {0}, {0, 20}, {0, 20, 32}, {0, 20},
@@ -97,6 +97,15 @@ void try_read(const char *name, const struct tried_call *call, struct refused_at
 {
     try_call(name, call, due.number);
     expect_holds(name, "the offset is another", ordinary.place == due.offset);
+}
+
+/* The file of a read: its number, its offset, and figures that go with them. */
+void try_explain(const char *name, struct tried_call call, struct refused_at due)
+{
+    call.function = EXPLAIN;
+    try_call(name, &call, due.number);
+    expect_holds(name, "what is explained does not go with the number",
+                 is_explained(due, ordinary.explained, call.file, call.file_len));
 }
 
 void expect_holds(const char *name, const char *what, int holds)

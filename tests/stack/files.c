@@ -61,6 +61,7 @@ static void try_cut(const struct file *file, size_t length)
     struct tried_call call = read_call(file);
     call.file_len = length;
     try_read(file->name, &call, z80_cut(file->bytes, length));
+    try_explain(file->name, call, z80_cut(file->bytes, length));
 }
 
 /* No beginning of an accepted file is accepted. */
@@ -83,6 +84,7 @@ void try_file(const char *name, const uint8_t *bytes, size_t length, struct refu
     try_read_lengths(file);
     if (due.number == 0)
         try_cuts(file);
+    try_explain(file->name, call, due);
     try_read(file->name, &call, due);
     if (due.number != 0)
         area = zeros;

@@ -14,7 +14,8 @@
 
 /* The exported functions; the last four look at a machine or at the library. */
 enum function {
-    READ, WRITE, SCS_READ, SCS_WRITE, VIEW, START, BYTE, PAIR, OUT, UNDO, REDO, VERSION, MODEL, PAIR_VALUE, PLACE, FUNCTIONS
+    READ, EXPLAIN, WRITE, SCS_READ, SCS_WRITE, VIEW, START, BYTE, PAIR, OUT, UNDO, REDO, VERSION, MODEL, PAIR_VALUE, PLACE,
+    FUNCTIONS
 };
 extern const char *const function_names[FUNCTIONS];
 
@@ -27,9 +28,10 @@ struct lent_buffers {
         uint16_t pair, offset;
     } figures;
     uint64_t standing, total, length, start, place; /* place: the offset that a read gives */
+    struct explained explained;
 };
 
-/* A call: its function, the file for a read, how much of each buffer is lent, and what is asked. */
+/* A call: its function, the file that is read or explained, how much of each buffer is lent, and what is asked. */
 struct tried_call {
     enum function function;
     const uint8_t *file;
@@ -60,6 +62,7 @@ extern struct trying {
 void level(void);
 void try_call(const char *name, const struct tried_call *call, uint32_t due);
 void try_read(const char *name, const struct tried_call *call, struct refused_at due);
+void try_explain(const char *name, struct tried_call call, struct refused_at due);
 void expect_holds(const char *name, const char *what, int holds);
 void close_check(int holds, const char *format, ...);
 void report_calls(void);

@@ -43,9 +43,9 @@ static struct tried_call pick(const struct lent_buffers *lent, uint64_t *seed)
 {
     static const enum function often[19] = {BYTE, BYTE, BYTE, PAIR, PAIR, PAIR,    OUT,   OUT,        UNDO, UNDO,
                                             UNDO, REDO, REDO, VIEW, VIEW, VERSION, MODEL, PAIR_VALUE, PLACE};
-    static const enum function seldom[5] = {START, START, READ, WRITE, SCS_WRITE};
+    static const enum function seldom[6] = {START, START, READ, EXPLAIN, WRITE, SCS_WRITE};
     uint64_t word = next(seed);
-    enum function function = word % 20 < 19 ? often[word % 20] : seldom[word / 20 % 5];
+    enum function function = word % 20 < 19 ? often[word % 20] : seldom[word / 20 % 6];
     const struct file *file = &files[(word >> 8) % file_count];
     if (function == READ)
         function = file->reader;
@@ -70,6 +70,7 @@ static uint64_t sum_of(const struct lent_buffers *lent, const struct tried_call 
     sum = add(sum, &lent->start, sizeof lent->start);
     sum = add(sum, &lent->place, sizeof lent->place);
     sum = add(sum, &lent->figures, sizeof lent->figures);
+    sum = add(sum, &lent->explained, sizeof lent->explained);
     if (call->function == READ || call->function == SCS_READ || at % 64 == 0)
         sum = add(sum, lent->area, sizeof lent->area);
     if (call->function == WRITE || call->function == SCS_WRITE)

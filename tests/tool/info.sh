@@ -188,7 +188,7 @@ json_refusals() {
     [ "$count" -ge 5 ]
     head -c 100 samples/museum-48k.z80 >"$work/cut.z80"
     run_tool 1 info "$work/cut.z80" --json
-    [ "$(cat "$work/out")" = '{"refused": 8, "offset": 86, "block": 1, "unwrapped": null, "sentence": "a block is cut short", "file": "'"$work"'/cut.z80"}' ]
+    [ "$(cat "$work/out")" = '{"refused": 8, "offset": 86, "block": 1, "found": 0, "due": 0, "unwrapped": null, "sentence": "a block is cut short", "explanation": "block 1, at byte 86: the file ends inside it", "file": "'"$work"'/cut.z80"}' ]
     [ ! -s "$work/err" ]
 }
 check "a refusal under --json is JSON, alone" json_refusals
