@@ -7,6 +7,7 @@
 
 typedef uint32_t reading(const uint8_t *, size_t, uint8_t *, size_t, uint8_t *, size_t, uint64_t *);
 typedef uint32_t reading_before(const uint8_t *, size_t, uint8_t *, size_t, uint8_t *, size_t);
+typedef uint32_t explaining(const uint8_t *, size_t, uint64_t *, uint64_t *, uint64_t *, uint64_t *);
 typedef uint32_t writing(const uint8_t *, size_t, const uint8_t *, size_t, uint8_t *, size_t, uint64_t *);
 typedef uint32_t correcting(uint8_t *, size_t, uint8_t *, size_t, uint8_t *, size_t, uint64_t *, uint64_t *, uint16_t, uint8_t);
 typedef uint32_t moving(uint8_t *, size_t, uint8_t *, size_t, uint8_t *, size_t, uint64_t *, uint64_t *);
@@ -15,6 +16,8 @@ uint32_t other_snap_version(void);
 /* Readers have no offset before version 400: their type is known when the program runs. There is none of SCS before 300. */
 void other_snap_z80_read(void);
 __attribute__((weak)) void other_snap_scs_read(void);
+/* There is none before 500. */
+__attribute__((weak)) explaining other_snap_z80_explain;
 writing other_snap_z80_write;
 correcting other_snap_correct_byte;
 moving other_snap_undo, other_snap_redo;
@@ -23,19 +26,20 @@ moving other_snap_undo, other_snap_redo;
 struct build_reader { reading *with_offset; reading_before *without; };
 struct build {
     struct build_reader z80, scs;
+    explaining *explain;
     writing *write;
     correcting *correct;
     moving *undo, *redo;
 };
-static const struct build ours = { { snap_z80_read, NULL }, { snap_scs_read, NULL }, snap_z80_write, snap_correct_byte, snap_undo, snap_redo };
-static struct build theirs = { .write = other_snap_z80_write, .correct = other_snap_correct_byte, .undo = other_snap_undo, .redo = other_snap_redo };
+static const struct build ours = { { snap_z80_read, NULL }, { snap_scs_read, NULL }, snap_z80_explain, snap_z80_write, snap_correct_byte, snap_undo, snap_redo };
+static struct build theirs = { .explain = other_snap_z80_explain, .write = other_snap_z80_write, .correct = other_snap_correct_byte, .undo = other_snap_undo, .redo = other_snap_redo };
 
 enum { FILES = 64, STEPS = 4096, CALLS = 512 };
 /* The files; each as an SCS file; those whose last block is packed, with a bad code at their end. */
 static struct loaded { uint8_t *bytes; size_t length; } files[FILES], scs_files[FILES], bad_files[FILES];
 static int count, bad_count;
 static uint8_t area[131072], head[86], out[131182], journal[STEPS * 11];
-static uint64_t size, standing, total, offset;
+static uint64_t size, standing, total, offset, block, found, due;
 
 static void fail(const char *name, const char *what)
 {
@@ -54,10 +58,16 @@ static uint32_t read_by(struct build_reader by, const struct loaded *file)
     return by.without(file->bytes, file->length, area, sizeof area, head, sizeof head);
 }
 
+static uint32_t explain_by(explaining *by, const struct loaded *file)
+{
+    return by(file->bytes, file->length, &offset, &block, &found, &due);
+}
+
 /* Both builds give this number. */
 static int both_give(uint32_t number, int is_scs, const struct loaded *file)
 {
     struct build_reader by = is_scs ? theirs.scs : theirs.z80;
+    if (!is_scs && (explain_by(ours.explain, file) != number || (theirs.explain && explain_by(theirs.explain, file) != number))) return 0;
     return read_by(is_scs ? ours.scs : ours.z80, file) == number && (!(by.with_offset || by.without) || read_by(by, file) == number);
 }
 
@@ -116,7 +126,7 @@ static void calls(moving *call)
     for (int k = 0; k < CALLS; k++) call(head, sizeof head, area, sizeof area, journal, sizeof journal, &standing, &total);
 }
 
-enum timed_part { READ, READ_SCS, READ_BAD, WRITE, CORRECT, UNDO, REDO, PARTS };
+enum timed_part { READ, READ_SCS, READ_BAD, EXPLAIN, WRITE, CORRECT, UNDO, REDO, PARTS };
 
 /* The seconds of one of the parts. What comes before the clock starts is done by the same build: the processor remembers
    where it went. */
@@ -134,6 +144,7 @@ static double seconds_of(enum timed_part part, const struct build *by)
         case READ: read_by(by->z80, &files[i]); break;
         case READ_SCS: read_by(by->scs, &scs_files[i]); break;
         case READ_BAD: read_by(by->z80, &bad_files[i]); break;
+        case EXPLAIN: explain_by(by->explain, &files[i]); break;
         case WRITE: by->write(head, sizeof head, area, sizeof area, out, sizeof out, &size); break;
         case CORRECT: corrections(by); break;
         case UNDO: calls(by->undo); break;
@@ -144,13 +155,14 @@ static double seconds_of(enum timed_part part, const struct build *by)
     return spent;
 }
 
-static void compare(enum timed_part part, const char *name)
+/* The time of a part by this build as a ratio of another part's, or of the same one's by the other build. */
+static void compare(const char *name, enum timed_part part, enum timed_part beside, const struct build *by)
 {
     double ratio[ROUNDS];
     for (int round = 0; round < ROUNDS; round++) {
         double a, b;
-        if (round % 2) { a = seconds_of(part, &ours); b = seconds_of(part, &theirs); }
-        else { b = seconds_of(part, &theirs); a = seconds_of(part, &ours); }
+        if (round % 2) { a = seconds_of(part, &ours); b = seconds_of(beside, by); }
+        else { b = seconds_of(beside, by); a = seconds_of(part, &ours); }
         ratio[round] = a / b;
     }
     printf("  %-18s %.2f\n", name, median(ratio));
@@ -158,7 +170,7 @@ static void compare(enum timed_part part, const char *name)
 
 int main(int argc, char **argv)
 {
-    static const char *const names[PARTS] = { "reading", "reading SCS", "refused as 11", "writing", "a byte corrected", "undo", "redo" };
+    static const char *const names[PARTS] = { "reading", "reading SCS", "refused as 11", "explaining", "writing", "a byte corrected", "undo", "redo" };
     theirs.z80 = reader_of(other_snap_z80_read);
     if (other_snap_scs_read) theirs.scs = reader_of(other_snap_scs_read);
     for (int i = 1; i < argc; i++) load(argv[i]);
@@ -168,7 +180,10 @@ int main(int argc, char **argv)
     for (int part = 0; part < PARTS; part++) {
         if (part == READ_SCS && !other_snap_scs_read) continue;
         if (part == READ_BAD && !bad_count) continue;
-        compare((enum timed_part)part, names[part]);
+        if (part == EXPLAIN && !theirs.explain) continue;
+        compare(names[part], (enum timed_part)part, (enum timed_part)part, &theirs);
     }
+    printf("in this build, beside reading the same files\n");
+    compare("explaining", EXPLAIN, READ, &ours);
     return 0;
 }

@@ -3,34 +3,33 @@
 command -v python3 >/dev/null || need /usr/bin/python3 python3 || exit 1
 
 # explains NUMBER OFFSET BLOCK FOUND DUE SENTENCE [HINT]: standard input is refused so, plain and in gzip; its line and its JSON.
+# All these JSON lines are gathered in $work/explained.json.
+: >"$work/explained.json"
 explains() {
-    local file=$work/explained.file line=$6${7:+ ($7)} length
+    local file=$work/explained.file length
     cat >"$file"
     length=$(stat -c %s "$file")
-    gzip -c "$file" >"$file.gz"
+    gzip -1 -c "$file" >"$file.gz"
     explains_file "$file" '' null "$@"
-    explains_file "$file.gz" 'unwrapped, ' "$length" "$@"
-    as_input 1 "$file" check -
-    [ "$(cat "$work/out")" = "standard input: refused, $1: $line" ]
-}
-# explains_file FILE BEFORE UNWRAPPED NUMBER ..
-explains_file() {
-    local file=$1 before=$2 unwrapped=$3
-    shift 3
-    run_tool 1 check "$file"
-    [ ! -s "$work/err" ]
-    [ "$(cat "$work/out")" = "$file: refused, $1: $before$6${7:+ ($7)}" ]
-    run_tool 1 check --json "$file"
-    [ ! -s "$work/err" ]
-    cp "$work/out" "$work/json"
-    fits_json "$work/json" 1
-    [ "$(jq -c '[.refused, .offset, .block, .found, .due, .unwrapped]' "$work/json")" = "[$1,$2,$3,$4,$5,$unwrapped]" ]
-    [ "$(jq -r '.explanation' "$work/json")" = "$before$6${7:+ ($7)}" ]
-    [ "$(jq -r '.hint // ""' "$work/json")" = "${7:-}" ]
-    [ "$(jq -r '.file' "$work/json")" = "$file" ]
     # info tells the same
     run_tool 1 info --json "$file"
     diff "$work/json" "$work/out"
+    explains_file "$file.gz" 'unwrapped, ' "$length" "$@"
+}
+# explains_file FILE BEFORE UNWRAPPED NUMBER ..
+explains_file() {
+    local file=$1 explanation=$2$9 unwrapped=$3
+    shift 3
+    explanation=$explanation${7:+ ($7)}
+    run_tool 1 check "$file"
+    [ ! -s "$work/err" ]
+    [ "$(cat "$work/out")" = "$file: refused, $1: $explanation" ]
+    run_tool 1 check --json "$file"
+    [ ! -s "$work/err" ]
+    cp "$work/out" "$work/json"
+    cat "$work/json" >>"$work/explained.json"
+    jq -r '"\(.refused) \(.offset) \(.block) \(.found) \(.due) \(.unwrapped)", .explanation, .hint // "", .file' "$work/json" |
+        diff <(printf '%s\n' "$1 $2 $3 $4 $5 $unwrapped" "$explanation" "${7:-}" "$file") -
 }
 # fits_json FILE COUNT: so many lines, each an object with all its parts, by a parser that is not jq.
 fits_json() {
@@ -175,6 +174,19 @@ of_scs() {
     explains 5 0 0 0 0 'the interrupt mode is 3' <"$work/mode3.scs"
 }
 check "check: the sentences of an SCS file" of_scs
+
+all_explained() {
+    head -c 20 samples/museum-48k.z80 >"$work/short.z80"
+    as_input 1 "$work/short.z80" check -
+    [ "$(cat "$work/out")" = "standard input: refused, 2: the file is shorter than its header: it has 20 bytes, at least 30 are due" ]
+    gzip -c "$work/short.z80" >"$work/short.z80.gz"
+    as_input 1 "$work/short.z80.gz" check -
+    [ "$(cat "$work/out")" = "standard input: refused, 2: unwrapped, the file is shorter than its header: it has 20 bytes, at least 30 are due" ]
+    fits_json "$work/explained.json" "$(wc -l <"$work/explained.json")"
+    [ "$(wc -l <"$work/explained.json")" -ge 140 ]
+    [ "$(jq .refused "$work/explained.json" | sort -n | uniq | paste -s -d ' ')" = '2 3 4 5 6 7 8 9 10 11 12 13 14 40 41 42 43' ]
+}
+check "check: the sentence of standard input; every number of a file was explained, in lines of JSON" all_explained
 
 good_lines() {
     local file said
