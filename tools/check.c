@@ -3,7 +3,7 @@
 #include <signal.h>
 #include <string.h>
 
-#include "tool.h"
+#include "checking.h"
 
 struct check_counts {
     size_t good, refused, unread;

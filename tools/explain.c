@@ -1,5 +1,5 @@
 /* explain.c: what is found of a file that is looked through, as one sentence with its figures. */
-#include "tool.h"
+#include "checking.h"
 
 /* Where the number of a .Z80 block stands in its head. */
 #define Z80_BLOCK_NUMBER 2u

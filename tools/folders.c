@@ -7,7 +7,7 @@
 #include <strings.h>
 #include <sys/stat.h>
 
-#include "tool.h"
+#include "checking.h"
 
 static bool ends_in(const char *name, size_t length, const char *end)
 {
@@ -52,7 +52,7 @@ static void unread_folder(struct file_list *list, const char *path)
     list->unread++;
 }
 
-/* Whether it is one itself; and whether a link, which is not followed into a folder, leads to one. */
+/* What stands in a folder. A link is what it leads to, but is not followed into a folder: so none is entered twice. */
 enum entry_kind { FILE_ENTRY, FOLDER_ENTRY, LINKED_FOLDER, UNREAD_ENTRY };
 static enum entry_kind kind_of_entry(const char *path)
 {

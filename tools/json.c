@@ -1,4 +1,5 @@
 /* json.c: a file, or why it is not accepted, as JSON; numbers in decimal. */
+#include "checking.h"
 #include "tool.h"
 
 static unsigned code_of(const unsigned char *s, unsigned length)

@@ -4,7 +4,7 @@
 #include <time.h>
 #include <unistd.h>
 
-#include "tool.h"
+#include "checking.h"
 
 #define BEGIN_LINE "\r\033[K"
 #define PAUSE 100

@@ -3,6 +3,7 @@
 #include <stdarg.h>
 #include <string.h>
 
+#include "checking.h"
 #include "tool.h"
 
 unsigned character_length(const unsigned char *s)

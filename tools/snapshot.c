@@ -3,6 +3,7 @@
 #include <signal.h>
 #include <string.h>
 
+#include "checking.h"
 #include "tool.h"
 
 static struct snapshot opened;

@@ -3,6 +3,7 @@
 #include <errno.h>
 #include <string.h>
 
+#include "checking.h"
 #include "tool.h"
 
 static bool as_json, with_bytes;
@@ -35,6 +36,11 @@ enum status unread_errno(const char *file, const char *doing)
     return unread(file, sentence);
 }
 
+static void print_json_line(const char *file, const struct taking *taken)
+{
+    print_json_taking(stdout, file, taken);
+}
+
 static void tell_bytes(const char *file, const struct taking *taken)
 {
     if (!with_bytes)
@@ -50,7 +56,7 @@ enum status refused_file(const char *file, const struct taking *taken)
     hint_for(taken, hint);
     where_refused(taken, where);
     if (as_json)
-        print_json_taking(stdout, file, taken);
+        print_json_line(file, taken);
     else
         warn(file, hint[0] == 0 ? "refused, %u%s: %s" : "refused, %u%s: %s (%s)", (unsigned)taken->number, where,
              snap_sentence(taken->number), hint);
@@ -58,17 +64,20 @@ enum status refused_file(const char *file, const struct taking *taken)
     return REFUSED;
 }
 
-void explained_file(const char *file, const struct taking *taken)
+static void print_explained(const char *file, const struct taking *taken)
 {
     char explanation[EXPLANATION_SIZE];
     explain(taken, explanation);
-    clear_for_output();
-    if (as_json)
-        print_json_taking(stdout, file, taken);
-    else if (is_accepted(taken))
+    if (is_accepted(taken))
         printf("%s: %s\n", shown(file), explanation);
     else
         printf("%s: refused, %u: %s\n", shown(file), (unsigned)taken->number, explanation);
+}
+
+void explained_file(const char *file, const struct taking *taken)
+{
+    clear_for_output();
+    (as_json ? print_json_line : print_explained)(file, taken);
     if (!is_accepted(taken))
         tell_bytes(file, taken);
 }

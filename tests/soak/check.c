@@ -52,7 +52,7 @@ void expect_explained(const uint8_t *file, size_t length, struct refused_at due)
 {
     struct explained given = explained_dirt;
     expect("explain", snap_z80_explain(file, length, &given.offset, &given.block, &given.found, &given.due), due.number);
-    expect("that what is explained goes with it", (uint64_t)is_explained(due, given, file, length), 1);
+    expect("whether what is explained fits", (uint64_t)is_explained(due, given, file, length), 1);
     bytes_checked += sizeof given;
 }
 

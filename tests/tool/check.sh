@@ -93,6 +93,8 @@ summaries() {
     told 0 '1 file: 1 good, 0 refused' "$work/museum/c.z80"
     # a file that is named is looked at, whatever its name
     told 0 '2 files: 2 good, 0 refused' "$work/museum/z80" "$work/museum/notes.gz"
+    if "$tool" check samples >/dev/full 2>"$work/err"; then return 1; else [ $? -eq 3 ]; fi
+    [ "$(cat "$work/err")" = "snapshot: standard output: cannot be written: No space left on device" ]
     # one alone has no summary
     run_tool 1 check "$bad"
     [ "$(wc -l <"$work/out")" -eq 1 ]

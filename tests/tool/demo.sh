@@ -5,6 +5,7 @@ demo() {
     bash tools/demo >"$work/demo" 2>&1
     [ "$(tail -n 1 "$work/demo")" = "make demo: done" ]
     grep -qF "refused, 30: " "$work/demo"
+    grep -qxF 'target/demo/cut.z80: refused, 8: block 3, at byte 646: the file ends inside it' "$work/demo"
     picture=$(sed -n 's/^the picture: //p' "$work/demo")
     [ "${picture:0:1}" = / ]
     "$work/pixels" "$picture" samples/museum-48k.z80
