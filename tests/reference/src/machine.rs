@@ -8,7 +8,7 @@ mod pairs;
 #[cfg(test)]
 mod tests;
 
-pub use clock::{counters, position, quarter};
+pub use clock::{counters, position, quarter, BadCounter};
 pub use header::{flags, from_header, header, own_header, Version, HEADER};
 pub use paging::{owns, page_at};
 pub use pairs::PAIRS;

@@ -1,16 +1,20 @@
 //! The run packing of `.z80` memory blocks: the plain form of both directions,
 //! and the fast slice forms that the benchmark measures against.
 
+mod answer;
 mod sliced;
 #[cfg(test)]
 mod tests;
 pub mod wordwise;
 
-pub use sliced::{pack_into, unpack_into, UnpackAnswer};
+pub use answer::{UnpackAnswer, MOST_COUNTED};
+pub use sliced::{pack_into, unpack_into};
 
 /// Both directions into a lent part.
 pub trait PackingForm {
     fn unpack_into(src: &[u8], dst: &mut [u8]) -> UnpackAnswer;
+    /// What unpacking into a part of `due` bytes answers.
+    fn would_unpack(src: &[u8], due: usize) -> UnpackAnswer;
     fn pack_into(src: &[u8], dst: &mut [u8]) -> Option<usize>;
 }
 
@@ -25,6 +29,10 @@ impl PackingForm for Ordinary {
         unpack_into(src, dst)
     }
 
+    fn would_unpack(src: &[u8], due: usize) -> UnpackAnswer {
+        sliced::would_unpack(src, due)
+    }
+
     fn pack_into(src: &[u8], dst: &mut [u8]) -> Option<usize> {
         pack_into(src, dst)
     }
@@ -33,6 +41,10 @@ impl PackingForm for Ordinary {
 impl PackingForm for Wordwise {
     fn unpack_into(src: &[u8], dst: &mut [u8]) -> UnpackAnswer {
         wordwise::unpack_into(src, dst)
+    }
+
+    fn would_unpack(src: &[u8], due: usize) -> UnpackAnswer {
+        wordwise::would_unpack(src, due)
     }
 
     fn pack_into(src: &[u8], dst: &mut [u8]) -> Option<usize> {
@@ -56,19 +68,37 @@ pub enum UnpackedBytes {
 /// What the packed bytes stand for.
 pub fn unpacked(data: &[u8]) -> UnpackedBytes {
     let mut out = Vec::new();
+    let read = each_run(data, |count, byte| {
+        out.extend(std::iter::repeat_n(byte, count))
+    });
+    match read {
+        Ok(()) => UnpackedBytes::Bytes(out),
+        Err(code) => UnpackedBytes::Malformed(code),
+    }
+}
+
+/// What unpacking into a part of `due` bytes answers.
+pub fn would_unpack(data: &[u8], due: usize) -> UnpackAnswer {
+    let mut length = 0;
+    match each_run(data, |count, _| length += count) {
+        Ok(()) => UnpackAnswer::of_length(length, due),
+        Err(code) => UnpackAnswer::Malformed(code),
+    }
+}
+
+/// Tells how often which byte comes, from the left; or where the first bad code starts.
+fn each_run(data: &[u8], mut tell: impl FnMut(usize, u8)) -> Result<(), usize> {
     let mut left = data;
     loop {
         left = match left {
-            [] => return UnpackedBytes::Bytes(out),
-            [ED, ED] | [ED, ED, _] | [ED, ED, 0, ..] => {
-                return UnpackedBytes::Malformed(data.len() - left.len());
-            }
+            [] => return Ok(()),
+            [ED, ED] | [ED, ED, _] | [ED, ED, 0, ..] => return Err(data.len() - left.len()),
             [ED, ED, count, byte, after @ ..] => {
-                out.extend(std::iter::repeat_n(*byte, usize::from(*count)));
+                tell(usize::from(*count), *byte);
                 after
             }
             [byte, after @ ..] => {
-                out.push(*byte);
+                tell(1, *byte);
                 after
             }
         };

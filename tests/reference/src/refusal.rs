@@ -48,7 +48,15 @@ impl Refusal {
         FileRefusal {
             refusal: self,
             offset,
+            block: 0,
+            found: 0,
+            due: 0,
         }
+    }
+
+    /// This refusal of a file, without an offset, with what was found and what was due.
+    pub fn figures(self, found: usize, due: usize) -> FileRefusal {
+        self.at(0).figures(found, due)
     }
 }
 
@@ -66,6 +74,23 @@ pub struct FileRefusal {
     pub refusal: Refusal,
     /// In the whole file; 0 where the refusal is told without an offset.
     pub offset: usize,
+    /// The ordinal of the block, from 1; 0 where no block is refused.
+    pub block: usize,
+    /// What was found and what was due; 0 where neither is told.
+    pub found: usize,
+    pub due: usize,
+}
+
+impl FileRefusal {
+    /// The same, in the block of this ordinal.
+    pub fn in_block(self, block: usize) -> FileRefusal {
+        FileRefusal { block, ..self }
+    }
+
+    /// The same, with what was found and what was due.
+    pub fn figures(self, found: usize, due: usize) -> FileRefusal {
+        FileRefusal { found, due, ..self }
+    }
 }
 
 impl From<Refusal> for FileRefusal {

@@ -1,14 +1,17 @@
-//! Reading `.z80` files of v1, v2 and v3 and writing v3: the plain form, the calls over byte buffers that the
+//! Reading and explaining `.z80` files of v1, v2 and v3 and writing v3: the plain form, the calls over byte buffers that the
 //! library exports, and the forms that the benchmark measures against.
 
 pub mod direct;
+mod explain;
 mod read;
 mod stored;
 #[cfg(test)]
 mod tests;
+mod walk;
 mod write;
 
 use crate::buffers;
+pub use explain::{explain, ExplainFigures};
 pub use read::{packed_blocks, read};
 pub use write::write;
 

@@ -10,10 +10,23 @@ pub fn quarter(model: Model) -> u32 {
     }
 }
 
-/// The frame position of a low and a high counter, if both are in range.
-pub fn position(model: Model, low: u16, high: u8) -> Option<u32> {
+/// A counter that is out of range.
+#[derive(Debug, Clone, Copy, PartialEq, Eq)]
+pub struct BadCounter {
+    pub value: u32,
+    /// The largest that it may be.
+    pub largest: u32,
+}
+
+/// The frame position of a low and a high counter, or the first of them that is out of range.
+pub fn position(model: Model, low: u16, high: u8) -> Result<u32, BadCounter> {
     let (q, low, high) = (quarter(model), u32::from(low), u32::from(high));
-    (low < q && high <= 3).then(|| (high + 1) % 4 * q + (q - 1 - low))
+    for (value, largest) in [(low, q - 1), (high, 3)] {
+        if value > largest {
+            return Err(BadCounter { value, largest });
+        }
+    }
+    Ok((high + 1) % 4 * q + (q - 1 - low))
 }
 
 /// The low and the high counter of a frame position below four quarters.

@@ -1,7 +1,7 @@
 //! The header bytes of a `.z80` file: read in every version, made in v3.
 
 use super::{counters, position, Attachment, Machine, Model, Video};
-use crate::refusal::Refusal;
+use crate::refusal::{FileRefusal, Refusal};
 
 /// The length of a v3 header.
 pub const HEADER: usize = 86;
@@ -36,13 +36,13 @@ pub fn flags(header: &[u8]) -> u8 {
 }
 
 /// The machine of a whole header of this version.
-pub fn from_header(version: Version, bytes: &[u8]) -> Result<Machine, Refusal> {
+pub fn from_header(version: Version, bytes: &[u8]) -> Result<Machine, FileRefusal> {
     let (model, attachment) = mode(version, bytes).ok_or(Refusal::Mode)?;
     let mut machine = first_part(bytes);
     machine.model = model;
     machine.attachment = attachment;
     if machine.interrupt_mode == 3 {
-        return Err(Refusal::InterruptMode);
+        return Err(Refusal::InterruptMode.into());
     }
     // What v1 and v2 give for bytes 61 and 62; v3 has its own.
     machine.side[1] = 255;
@@ -131,11 +131,14 @@ fn second_part(machine: &mut Machine, bytes: &[u8]) {
 }
 
 /// Bytes 55 to 85.
-fn third_part(machine: &mut Machine, bytes: &[u8]) -> Result<(), Refusal> {
+fn third_part(machine: &mut Machine, bytes: &[u8]) -> Result<(), FileRefusal> {
     let position = position(machine.model, word(bytes, 55), bytes[57]);
-    machine.frame_position = position.ok_or(Refusal::Counter)?;
+    machine.frame_position = position.map_err(|bad| {
+        let (found, due) = (bad.value as usize, bad.largest as usize);
+        Refusal::Counter.figures(found, due)
+    })?;
     if bytes[60] != 0 {
-        return Err(Refusal::Multiface);
+        return Err(Refusal::Multiface.into());
     }
     machine.side[0] = bytes[59];
     machine.side[1..].copy_from_slice(&bytes[61..86]);

@@ -5,8 +5,8 @@ use crate::memory::Rng;
 
 #[test]
 fn p12_frame_positions() {
-    assert_eq!(position(Model::K48, 0, 2), Some(69_887));
-    assert_eq!(position(Model::K48, 100, 0), Some(34_843));
+    assert_eq!(position(Model::K48, 0, 2), Ok(69_887));
+    assert_eq!(position(Model::K48, 100, 0), Ok(34_843));
 }
 
 #[test]
@@ -14,12 +14,28 @@ fn counters_and_positions_are_inverse() {
     for model in [Model::K48, Model::K128] {
         for at in 0..4 * quarter(model) {
             let (low, high) = counters(model, at);
-            assert_eq!(position(model, low, high), Some(at));
+            assert_eq!(position(model, low, high), Ok(at));
         }
         let q = quarter(model) as u16;
-        assert_eq!(position(model, q, 0), None);
-        assert_eq!(position(model, q - 1, 4), None);
-        assert_eq!(position(model, q - 1, 3), Some(0));
+        assert_eq!(position(model, q - 1, 3), Ok(0));
+    }
+}
+
+#[test]
+fn counters_out_of_range() {
+    let bad = |model, low, high| match position(model, low, high) {
+        Err(bad) => (bad.value, bad.largest),
+        Ok(at) => panic!("{low} and {high} are position {at}"),
+    };
+    for high in [0, 3, 4, 255] {
+        assert_eq!(bad(Model::K48, 17_472, high), (17_472, 17_471));
+        assert_eq!(bad(Model::K48, 17_726, high), (17_726, 17_471));
+        assert_eq!(bad(Model::K128, 17_727, high), (17_727, 17_726));
+        assert_eq!(bad(Model::K128, 65_535, high), (65_535, 17_726));
+    }
+    for low in [0, 17_471] {
+        assert_eq!(bad(Model::K48, low, 4), (4, 3));
+        assert_eq!(bad(Model::K128, low + 255, 255), (255, 3));
     }
 }
 
@@ -113,5 +129,5 @@ fn byte_12_of_255_counts_as_1() {
     assert_eq!((machine.r, machine.border), (0x85, 0));
     bytes[12] = 0x10;
     let refused = from_header(Version::V1, &bytes[..30]);
-    assert_eq!(refused, Err(crate::refusal::Refusal::Mode));
+    assert_eq!(refused, Err(crate::refusal::Refusal::Mode.into()));
 }

@@ -1,61 +1,58 @@
 //! Both directions into a lent part, in the ordinary form: codes found by `windows(2).position`, plain
 //! stretches copied as slices, runs filled as slices.
 
-use super::{ED, LONGEST_RUN};
-
-#[derive(Debug, Clone, Copy, PartialEq, Eq)]
-pub enum UnpackAnswer {
-    Good,
-    /// Where the first bad code starts.
-    Malformed(usize),
-    WrongLength,
-}
-
-impl UnpackAnswer {
-    /// Malformed, the bad code being what `src` ends in.
-    pub fn malformed(src: &[u8], code: &[u8]) -> UnpackAnswer {
-        UnpackAnswer::Malformed(src.len() - code.len())
-    }
-}
+use super::{UnpackAnswer, ED, LONGEST_RUN};
 
 /// Unpacks into the whole of `dst`; a refused `dst` is left all zero.
 pub fn unpack_into(src: &[u8], dst: &mut [u8]) -> UnpackAnswer {
-    let answer = write_unpacked(src, src, dst);
+    let answer = write_unpacked(src, src, dst.len(), dst);
     if answer != UnpackAnswer::Good {
         dst.fill(0);
     }
     answer
 }
 
-/// Writes what `left`, the unread end of the source, stands for, from the front of `dst` on.
-pub fn write_unpacked(src: &[u8], mut left: &[u8], mut dst: &mut [u8]) -> UnpackAnswer {
+/// Writes what `left`, the unread end of the source, stands for, from the front of `dst` on: the unwritten end of a
+/// part of `due` bytes.
+pub fn write_unpacked(src: &[u8], mut left: &[u8], due: usize, mut dst: &mut [u8]) -> UnpackAnswer {
     loop {
         let (plain, codes) = left.split_at(plain_length(left));
+        let written = due - dst.len();
         let Some((to, room)) = dst.split_at_mut_checked(plain.len()) else {
-            return without_room(src, codes);
+            return counted(src, left, written, due);
         };
         to.copy_from_slice(plain);
+        let written = due - room.len();
         let (count, byte, after) = match codes {
-            [] if room.is_empty() => return UnpackAnswer::Good,
-            [] => return UnpackAnswer::WrongLength,
+            [] => return UnpackAnswer::of_length(written, due),
             [_, _, count @ 1..=255, byte, after @ ..] => (usize::from(*count), *byte, after),
             _ => return UnpackAnswer::malformed(src, codes),
         };
         let Some((to, room)) = room.split_at_mut_checked(count) else {
-            return without_room(src, after);
+            return counted(src, codes, written, due);
         };
         to.fill(byte);
         (left, dst) = (after, room);
     }
 }
 
-/// The answer where the part is too short and `left`, the end of the source, is still unread.
-pub fn without_room(src: &[u8], mut left: &[u8]) -> UnpackAnswer {
+/// What unpacking into a part of `due` bytes answers.
+pub fn would_unpack(src: &[u8], due: usize) -> UnpackAnswer {
+    counted(src, src, 0, due)
+}
+
+/// The same where `left`, the end of the source, is still to be counted, and what is before it stands for `length` bytes.
+pub fn counted(src: &[u8], mut left: &[u8], mut length: usize, due: usize) -> UnpackAnswer {
     loop {
-        left = match &left[plain_length(left)..] {
-            [] => return UnpackAnswer::WrongLength,
-            [_, _, 1..=255, _, after @ ..] => after,
-            codes => return UnpackAnswer::malformed(src, codes),
+        let (plain, codes) = left.split_at(plain_length(left));
+        length += plain.len();
+        left = match codes {
+            [] => return UnpackAnswer::of_length(length, due),
+            [_, _, count @ 1..=255, _, after @ ..] => {
+                length += usize::from(*count);
+                after
+            }
+            _ => return UnpackAnswer::malformed(src, codes),
         };
     }
 }

@@ -113,7 +113,61 @@ fn the_first_bad_code_is_told() {
                 let told = UnpackAnswer::Malformed(plain + place);
                 assert_eq!(Ordinary::unpack_into(&longer, &mut vec![1; room]), told);
                 assert_eq!(Wordwise::unpack_into(&longer, &mut vec![1; room]), told);
+                assert_eq!(would_by_all(&longer, room), told);
             }
+        }
+    }
+}
+
+/// What unpacking into a part of `due` bytes answers by every form.
+fn would_by_all(code: &[u8], due: usize) -> UnpackAnswer {
+    let answer = would_unpack(code, due);
+    assert_eq!(Ordinary::would_unpack(code, due), answer);
+    assert_eq!(Wordwise::would_unpack(code, due), answer);
+    answer
+}
+
+#[test]
+fn wrong_lengths_are_counted() {
+    use UnpackAnswer::{Good, WrongLength};
+    for (code, due, answer) in [
+        (&[][..], 0, Good),
+        (&[], 1, WrongLength(0)),
+        (&[0x41], 0, WrongLength(1)),
+        (&[ED], 2, WrongLength(1)),
+        (&[ED, 0x41, ED], 4, WrongLength(3)),
+        (&[ED, ED, 1, ED], 2, WrongLength(1)),
+        (&[ED, ED, 255, 0], 254, WrongLength(255)),
+        (&[ED, ED, 255, ED, ED, 0, 1], 257, WrongLength(258)),
+        (&[1, 2, 3, ED, ED, 5, 4], 8, Good),
+        (&[1, 2, 3, ED, ED, 5, 4], 7, WrongLength(8)),
+    ] {
+        assert_eq!(would_by_all(code, due), answer);
+        assert_eq!(Ordinary::unpack_into(code, &mut vec![1; due]), answer);
+        assert_eq!(Wordwise::unpack_into(code, &mut vec![1; due]), answer);
+    }
+}
+
+#[test]
+fn lengths_are_counted_to_65_536() {
+    // 257 codes of 255 are 65,535 bytes
+    let code = [ED, ED, 255, 0x41].repeat(257);
+    let more = |end: &[u8]| [&code, end].concat();
+    for (code, length, counted) in [
+        (code.clone(), 65_535, 65_535),
+        (more(&[7]), 65_536, 65_536),
+        (more(&[7, 8]), 65_537, 65_536),
+        (more(&[ED, ED, 255, 0]), 65_790, 65_536),
+        (code.repeat(64), 4_194_240, 65_536),
+    ] {
+        for due in [0, 16_384, 65_534, 65_535, 65_536, 65_537, 65_790, 70_000] {
+            let answer = match due == length {
+                true => UnpackAnswer::Good,
+                false => UnpackAnswer::WrongLength(counted),
+            };
+            assert_eq!(would_by_all(&code, due), answer);
+            assert_eq!(Ordinary::unpack_into(&code, &mut vec![1; due]), answer);
+            assert_eq!(Wordwise::unpack_into(&code, &mut vec![1; due]), answer);
         }
     }
 }
@@ -124,8 +178,13 @@ fn check_unpack_into<F: PackingForm>(code: &[u8], length: usize) {
     let (expected, bytes) = match unpacked(code) {
         UnpackedBytes::Malformed(place) => (UnpackAnswer::Malformed(place), vec![0; length]),
         UnpackedBytes::Bytes(bytes) if bytes.len() == length => (UnpackAnswer::Good, bytes),
-        UnpackedBytes::Bytes(_) => (UnpackAnswer::WrongLength, vec![0; length]),
+        UnpackedBytes::Bytes(bytes) => {
+            let counted = bytes.len().min(65_536);
+            (UnpackAnswer::WrongLength(counted), vec![0; length])
+        }
     };
+    assert_eq!(would_unpack(code, length), expected);
+    assert_eq!(F::would_unpack(code, length), expected);
     assert_eq!(
         (answer, part),
         (expected, bytes),

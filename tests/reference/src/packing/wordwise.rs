@@ -6,4 +6,4 @@ mod unpack;
 mod words;
 
 pub use pack::pack_into;
-pub use unpack::unpack_into;
+pub use unpack::{unpack_into, would_unpack};

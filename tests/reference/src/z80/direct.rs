@@ -1,10 +1,11 @@
 //! The same calls without a copy, with either form of packing: pages unpacked in the area, blocks packed in
 //! the output.
 
-use super::read::V1_PAGES;
-use super::stored::{header_of, v1_body, StoredBlock, StoredData};
+use super::explain::{explain_by, ExplainFigures};
+use super::stored::StoredData;
+use super::walk::walk;
 use super::{BLOCK_HEAD, PLAIN};
-use crate::machine::{from_header, header, own_header, Machine, Model, Version, HEADER};
+use crate::machine::{header, own_header, Machine, HEADER};
 use crate::memory::{MEMORY, PAGE};
 use crate::packing::{PackingForm, UnpackAnswer};
 use crate::refusal::{number, number_and_offset, FileRefusal, Refusal};
@@ -40,69 +41,36 @@ fn read_into<F: PackingForm>(file: &[u8], area: &mut [u8]) -> Result<Machine, Fi
     if area.len() != MEMORY {
         return Err(Refusal::ReadArea.into());
     }
-    let (version, header) = header_of(file)?;
-    let machine = from_header(version, header)?;
     area.fill(0);
-    match version {
-        Version::V1 => read_v1::<F>(&v1_body(file, header)?, area)?,
-        _ => read_blocks::<F>(machine.model, file, header.len(), area)?,
-    }
-    Ok(machine)
-}
-
-fn read_v1<F: PackingForm>(body: &StoredData, area: &mut [u8]) -> Result<(), FileRefusal> {
-    let mut unpacked;
-    let bytes = if body.is_packed {
-        unpacked = vec![0; 3 * PAGE];
-        unpack::<F>(body, &mut unpacked)?;
-        &unpacked[..]
-    } else {
-        body.bytes
-    };
-    if bytes.len() != 3 * PAGE {
-        return Err(body.refused(Refusal::UnpackedLength));
-    }
-    for (part, page) in bytes.chunks(PAGE).zip(V1_PAGES) {
-        area[page * PAGE..][..PAGE].copy_from_slice(part);
-    }
-    Ok(())
-}
-
-fn read_blocks<F: PackingForm>(
-    model: Model,
-    file: &[u8],
-    start: usize,
-    area: &mut [u8],
-) -> Result<(), FileRefusal> {
-    let blocks = Machine::blocks(model);
-    let (mut seen, mut count) = ([false; 8], 0);
-    let mut head = start;
-    while head < file.len() {
-        let block = StoredBlock::of(file, head)?;
-        let page = block.page(blocks, &seen)?;
-        let part = &mut area[page * PAGE..][..PAGE];
-        if block.data.is_packed {
-            unpack::<F>(&block.data, part)?;
-        } else {
-            part.copy_from_slice(block.data.bytes);
+    walk(file, |data, pages| {
+        if let [page] = pages {
+            return bring::<F>(data, &mut area[page * PAGE..][..PAGE]);
         }
-        seen[page] = true;
-        count += 1;
-        head = block.data.end();
-    }
-    if count < blocks.len() {
-        return Err(Refusal::BlockMissing.into());
-    }
-    Ok(())
+        let mut body = vec![0; pages.len() * PAGE];
+        bring::<F>(data, &mut body)?;
+        for (part, page) in body.chunks(PAGE).zip(pages) {
+            area[page * PAGE..][..PAGE].copy_from_slice(part);
+        }
+        Ok(())
+    })
 }
 
-/// Unpacks the data into the whole part.
-fn unpack<F: PackingForm>(data: &StoredData, part: &mut [u8]) -> Result<(), FileRefusal> {
-    match F::unpack_into(data.bytes, part) {
-        UnpackAnswer::Good => Ok(()),
-        UnpackAnswer::Malformed(code) => Err(data.malformed(code)),
-        UnpackAnswer::WrongLength => Err(data.refused(Refusal::UnpackedLength)),
-    }
+/// Brings what the data stand for into the whole part.
+fn bring<F: PackingForm>(data: &StoredData, part: &mut [u8]) -> Result<(), FileRefusal> {
+    let answer = match data.is_packed {
+        true => F::unpack_into(data.bytes, part),
+        false if data.bytes.len() == part.len() => {
+            part.copy_from_slice(data.bytes);
+            UnpackAnswer::Good
+        }
+        false => UnpackAnswer::of_length(data.bytes.len(), part.len()),
+    };
+    data.judge(answer, part.len())
+}
+
+/// `explain` of the plain form.
+pub fn explain<F: PackingForm>(file: &[u8]) -> ExplainFigures {
+    explain_by(F::would_unpack, file)
 }
 
 /// `write_bytes` of the plain form.

@@ -3,30 +3,32 @@
 use super::{BLOCK_HEAD, PLAIN};
 use crate::machine::{flags, Version};
 use crate::memory::PAGE;
+use crate::packing::UnpackAnswer;
 use crate::refusal::{FileRefusal, Refusal};
 
 const END_MARKER: [u8; 4] = [0x00, 0xED, 0xED, 0x00];
 
 /// The version and the header; the rest of the file stands after it.
-pub fn header_of(file: &[u8]) -> Result<(Version, &[u8]), Refusal> {
+pub fn header_of(file: &[u8]) -> Result<(Version, &[u8]), FileRefusal> {
     let version = version(file)?;
-    let header = file.get(..version.header_length());
-    Ok((version, header.ok_or(Refusal::ShortFile)?))
+    Ok((version, front(file, version.header_length())?))
 }
 
-fn version(file: &[u8]) -> Result<Version, Refusal> {
-    if file.len() < 30 {
-        return Err(Refusal::ShortFile);
-    }
-    if file[6..8] != [0, 0] {
+fn version(file: &[u8]) -> Result<Version, FileRefusal> {
+    if front(file, 30)?[6..8] != [0, 0] {
         return Ok(Version::V1);
     }
-    match file[30..] {
-        [] | [_] => Err(Refusal::ShortFile),
-        [23, 0, ..] => Ok(Version::V2),
-        [54, 0, ..] => Ok(Version::V3),
-        _ => Err(Refusal::Version),
+    match front(file, 32)?[30..] {
+        [23, 0] => Ok(Version::V2),
+        [54, 0] => Ok(Version::V3),
+        _ => Err(Refusal::Version.into()),
     }
+}
+
+/// The first bytes of a file, which must have so many.
+fn front(file: &[u8], due: usize) -> Result<&[u8], FileRefusal> {
+    let short = Refusal::ShortFile.figures(file.len(), due);
+    file.get(..due).ok_or(short)
 }
 
 /// The data of a block, or of a v1 body.
@@ -37,6 +39,8 @@ pub struct StoredData<'a> {
     start: usize,
     /// Where a refusal of all of them points: the block's head, and the start of a v1 body.
     head: usize,
+    /// The ordinal of the block, from 1.
+    block: usize,
 }
 
 impl StoredData<'_> {
@@ -46,13 +50,25 @@ impl StoredData<'_> {
     }
 
     /// A refusal of all of them.
-    pub fn refused(&self, refusal: Refusal) -> FileRefusal {
-        refusal.at(self.head)
+    fn refused(&self, refusal: Refusal) -> FileRefusal {
+        refusal.at(self.head).in_block(self.block)
     }
 
     /// The refusal of a bad code that starts at this offset in them.
     pub fn malformed(&self, code: usize) -> FileRefusal {
-        Refusal::Malformed.at(self.start + code)
+        let offset = self.start + code;
+        Refusal::Malformed.at(offset).in_block(self.block)
+    }
+
+    /// What becomes of a file whose data have this answer where `due` bytes are due.
+    pub fn judge(&self, answer: UnpackAnswer, due: usize) -> Result<(), FileRefusal> {
+        match answer {
+            UnpackAnswer::Good => Ok(()),
+            UnpackAnswer::Malformed(code) => Err(self.malformed(code)),
+            UnpackAnswer::WrongLength(found) => {
+                Err(self.refused(Refusal::UnpackedLength).figures(found, due))
+            }
+        }
     }
 }
 
@@ -65,11 +81,13 @@ pub fn v1_body<'a>(file: &'a [u8], header: &[u8]) -> Result<StoredData<'a>, File
         true => body.strip_suffix(&END_MARKER),
         false => Some(body),
     };
+    let unmarked = Refusal::EndMarker.at(file.len()).in_block(1);
     Ok(StoredData {
         is_packed,
-        bytes: bytes.ok_or(Refusal::EndMarker.at(file.len()))?,
+        bytes: bytes.ok_or(unmarked)?,
         start,
         head: start,
+        block: 1,
     })
 }
 
@@ -79,9 +97,9 @@ pub struct StoredBlock<'a> {
 }
 
 impl StoredBlock<'_> {
-    /// The block whose head stands here.
-    pub fn of(file: &[u8], head: usize) -> Result<StoredBlock<'_>, FileRefusal> {
-        let cut = Refusal::CutBlock.at(head);
+    /// The block of this ordinal, whose head stands here.
+    pub fn of(file: &[u8], head: usize, block: usize) -> Result<StoredBlock<'_>, FileRefusal> {
+        let cut = Refusal::CutBlock.at(head).in_block(block);
         let (bytes, rest) = file[head..].split_at_checked(BLOCK_HEAD).ok_or(cut)?;
         let (length, is_packed) = match u16::from_le_bytes([bytes[0], bytes[1]]) {
             PLAIN => (PAGE, false),
@@ -92,6 +110,7 @@ impl StoredBlock<'_> {
             bytes: rest.get(..length).ok_or(cut)?,
             start: head + BLOCK_HEAD,
             head,
+            block,
         };
         Ok(StoredBlock {
             number: bytes[2],

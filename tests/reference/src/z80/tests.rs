@@ -1,5 +1,7 @@
 //! The examples of the rules, and the direct forms against the plain one.
 
+mod explain;
+mod files;
 mod offsets;
 
 use super::*;

@@ -2,7 +2,7 @@
 //! of one and two, words and wide compares, each found first or copied along.
 
 use super::words::{every, lowest, word, zero_bytes};
-use crate::packing::sliced::{without_room, write_unpacked as write_unpacked_plainly};
+use crate::packing::sliced::{counted, write_unpacked as write_unpacked_plainly};
 use crate::packing::{UnpackAnswer, ED};
 
 /// Source bytes copied and looked at in one step.
@@ -22,7 +22,7 @@ pub fn unpack_into(src: &[u8], dst: &mut [u8]) -> UnpackAnswer {
 
 /// Writes steps and short runs as whole blocks: what is too much is written over.
 fn write_unpacked(src: &[u8], mut dst: &mut [u8]) -> UnpackAnswer {
-    let mut left = src;
+    let (mut left, due) = (src, dst.len());
     while let (Some(chunk), Some(to)) = (
         left.first_chunk::<{ STRIDE + 1 }>(),
         dst.first_chunk_mut::<{ STRIDE + SHORT }>(),
@@ -42,11 +42,29 @@ fn write_unpacked(src: &[u8], mut dst: &mut [u8]) -> UnpackAnswer {
         } else if count <= room.len() {
             room[..count].fill(*byte);
         } else {
-            return without_room(src, after);
+            return counted(src, &left[plain..], due - room.len(), due);
         }
         (left, dst) = (after, &mut room[count..]);
     }
-    write_unpacked_plainly(src, left, dst)
+    write_unpacked_plainly(src, left, due, dst)
+}
+
+/// What unpacking into a part of `due` bytes answers.
+pub fn would_unpack(src: &[u8], due: usize) -> UnpackAnswer {
+    let (mut left, mut length) = (src, 0);
+    while let Some(chunk) = left.first_chunk::<{ STRIDE + 1 }>() {
+        let plain = find_code(chunk);
+        length += plain;
+        left = &left[plain..];
+        if plain < STRIDE {
+            let [_, _, count @ 1..=255, _, after @ ..] = left else {
+                return UnpackAnswer::malformed(src, left);
+            };
+            length += usize::from(*count);
+            left = after;
+        }
+    }
+    counted(src, left, length, due)
 }
 
 /// Where ED ED starts in the step, or STRIDE if it does not.

@@ -1,32 +1,7 @@
-//! The offsets of refused files, worked out by hand. A page of zeros packs to 65 codes, 260 bytes; a v1 body of zeros
-//! to 193 codes, 772 bytes.
+//! The offsets of refused files, worked out by hand.
 
+use super::files::{v1, v2, v3};
 use super::*;
-
-/// A v3 file of zeros. Its blocks of 263 bytes have their heads at 86, 349 and 612, and it ends at 875.
-fn v3() -> Vec<u8> {
-    let file = write(&machine(Model::K48), &vec![0; MEMORY]);
-    assert_eq!(file.len(), 875);
-    file
-}
-
-/// The same of v2, with a header that is 31 bytes shorter: heads at 55, 318 and 581, the end at 844.
-fn v2() -> Vec<u8> {
-    let mut file = v3();
-    file.drain(55..86);
-    file[30] = 23;
-    file
-}
-
-/// A packed v1 file of zeros: codes from 30 on, the last one at 798, the end marker at 802.
-fn v1() -> Vec<u8> {
-    let mut file = vec![0; 30];
-    (file[6], file[12]) = (1, 0x20);
-    file.extend(packed(&vec![0; 3 * PAGE]));
-    file.extend([0x00, 0xED, 0xED, 0x00]);
-    assert_eq!(file.len(), 806);
-    file
-}
 
 fn told(file: &[u8]) -> (u32, u64) {
     answer_and_offset(file, MEMORY)
