@@ -23,6 +23,14 @@ mod c {
             out_len: usize,
             length: *mut u64,
         ) -> u32;
+        pub fn snap_z80_explain(
+            file: *const u8,
+            file_len: usize,
+            offset: *mut u64,
+            block: *mut u64,
+            found: *mut u64,
+            due: *mut u64,
+        ) -> u32;
         pub fn snap_scs_read(
             file: *const u8,
             file_len: usize,
@@ -153,6 +161,18 @@ pub fn write(header: &[u8], area: &[u8], out: &mut [u8], length: &mut u64) -> u3
     let (to, room) = (out.as_mut_ptr(), out.len());
     // SAFETY: the slices and `length` are valid and do not overlap.
     unsafe { c::snap_z80_write(machine, header.len(), from, area.len(), to, room, length) }
+}
+
+/// Why reading refuses a `.z80` file; 0 and four zeros for a good one.
+pub fn explain(
+    file: &[u8],
+    offset: &mut u64,
+    block: &mut u64,
+    found: &mut u64,
+    due: &mut u64,
+) -> u32 {
+    // SAFETY: the slice and the four numbers are valid and do not overlap.
+    unsafe { c::snap_z80_explain(file.as_ptr(), file.len(), offset, block, found, due) }
 }
 
 /// Reads an SCS file into the area and the header; 0 or the number that refuses it, and the offset.

@@ -8,7 +8,7 @@ mod packing;
 
 use compare::report::{Group, Outcome, Report};
 use packing::checks::PackingChecker;
-use packing::{general_groups, pack_groups, place_groups, unpack_groups};
+use packing::{general_groups, length_groups, pack_groups, place_groups, unpack_groups};
 use reference::memory::Rng;
 use std::process::ExitCode;
 
@@ -17,7 +17,7 @@ const LEAST_INPUTS_PACKED: u64 = 1_000_000;
 
 type Run = fn(&mut Group, &mut PackingChecker, &mut Rng) -> Outcome;
 
-const GROUPS: [(&str, Run); 22] = [
+const GROUPS: [(&str, Run); 24] = [
     ("examples P1 to P11", |g, c, _| {
         general_groups::examples(g, c)
     }),
@@ -41,6 +41,8 @@ const GROUPS: [(&str, Run); 22] = [
     ("the first of two bad codes", place_groups::two_codes),
     ("bad codes far behind", place_groups::far_codes),
     ("no bad code", place_groups::no_codes),
+    ("unpack the wrong length", length_groups::counted),
+    ("unpack without a part", length_groups::without_a_part),
     ("pack every short list", |g, c, _| {
         pack_groups::all_lists(g, c)
     }),

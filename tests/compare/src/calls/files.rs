@@ -1,7 +1,8 @@
 //! Reading and writing of files of any format.
 
+use super::explain::{explain_call, FigureCounts};
 use super::formats::FileFormat;
-use super::offsets::{KnownRefusal, OffsetCounts, PlaceCounts};
+use super::offsets::{OffsetCounts, PlaceCounts};
 use super::seen::NUMBERS;
 use super::{answer, cell_difference, expect, note, outcome};
 use crate::lent::LentPart;
@@ -9,6 +10,7 @@ use crate::report::{hex, Group, Outcome};
 use reference::machine::HEADER;
 use reference::memory::{Rng, MEMORY};
 use reference::refusal::ACCEPTED;
+use reference::z80::ExplainFigures;
 
 /// Makes every lent part dirty before a call and counts the answers given.
 pub struct FileChecker {
@@ -23,9 +25,12 @@ pub struct FileChecker {
     pub writes: [u64; NUMBERS],
     pub offsets: OffsetCounts,
     pub places: PlaceCounts,
+    pub figures: FigureCounts,
     pub longest: usize,
     /// The offset that the last read told.
     pub last_offset: u64,
+    /// What the file of the last read was explained with.
+    pub last_explained: ExplainFigures,
     /// The length of the file that the last accepted read was written to.
     pub last_length: usize,
 }
@@ -45,8 +50,10 @@ impl FileChecker {
             writes: [0; NUMBERS],
             offsets: OffsetCounts::default(),
             places: PlaceCounts::default(),
+            figures: FigureCounts::default(),
             longest: 0,
             last_offset: 0,
+            last_explained: ExplainFigures::default(),
             last_length: 0,
         }
     }
@@ -59,38 +66,6 @@ impl FileChecker {
     /// The same without writing what was read.
     pub fn read_alone(&mut self, group: &mut Group, file: &[u8]) -> Result<u32, String> {
         self.read_once(group, file, MEMORY, HEADER)
-    }
-
-    /// Reads a file whose number and offset the group knows before.
-    pub fn expect_at(
-        &mut self,
-        group: &mut Group,
-        file: &[u8],
-        number: u32,
-        offset: usize,
-    ) -> Outcome {
-        expect(self.read_alone(group, file)?, number)?;
-        self.expect_offset(offset)
-    }
-
-    /// The last read told the offset that the group knows before.
-    pub fn expect_offset(&self, offset: usize) -> Outcome {
-        match self.last_offset {
-            told if told == offset as u64 => Ok(()),
-            told => Err(format!("the reference tells offset {told}, not {offset}")),
-        }
-    }
-
-    /// Reads a file of this kind that is refused as the group knows before.
-    pub fn expect_refused(
-        &mut self,
-        group: &mut Group,
-        kind: &'static str,
-        file: &[u8],
-        known: &KnownRefusal,
-    ) -> Outcome {
-        self.expect_at(group, file, known.number, known.offset)?;
-        self.places.add(kind, known)
     }
 
     /// Reads a file into an area and a header of these lengths, and answers the number. An accepted one is written and
@@ -126,19 +101,7 @@ impl FileChecker {
         Ok(())
     }
 
-    /// Reads any file into an area or a header of another length, by the case: 1 or 20, and no offset.
-    pub fn expect_no_offset(&mut self, group: &mut Group, file: &[u8], case: usize) -> Outcome {
-        let (area, header, due) = match case % 4 {
-            0 => (MEMORY - 1, HEADER, 1),
-            1 => (MEMORY + 1, HEADER, 1),
-            2 => (MEMORY, HEADER - 1, 20),
-            _ => (0, HEADER + 1, 20),
-        };
-        expect(self.read_once(group, file, area, header)?, due)?;
-        self.expect_offset(0)
-    }
-
-    fn read_once(
+    pub(super) fn read_once(
         &mut self,
         group: &mut Group,
         file: &[u8],
@@ -156,8 +119,32 @@ impl FileChecker {
         self.last_offset = offset;
         let outcome = self.read_call(file, (number, offset), &memory, &machine);
         self.memory = memory;
+        let read = match (area, header) {
+            (MEMORY, HEADER) => Some((number, offset)),
+            _ => None,
+        };
+        let outcome = outcome.and_then(|()| self.explain(file, read));
         let tell = |what| format!("read {} into {area} and {header} bytes: {what}", hex(file));
         outcome.map(|()| number).map_err(tell)
+    }
+
+    /// Explains a file where the format has that. If it was not read into buffers of the right length, it is read now.
+    fn explain(&mut self, file: &[u8], read: Option<(u32, u64)>) -> Outcome {
+        let Some(calls) = self.format.explaining else {
+            return Ok(());
+        };
+        let read = read.unwrap_or_else(|| {
+            self.area.renew(MEMORY, self.fills.word());
+            self.header.renew(HEADER, self.fills.word());
+            let (area, header) = (self.area.part_mut(), self.header.part_mut());
+            let mut offset = self.fills.word();
+            let number = (self.format.library.0)(file, area, header, &mut offset);
+            (number, offset)
+        });
+        let told = explain_call(calls, &mut self.fills, file, read);
+        self.last_explained = told.map_err(|what| format!("explained: {what}"))?;
+        self.figures.add(&self.last_explained);
+        Ok(())
     }
 
     /// One call of read, with the offset between two cells that must stay.

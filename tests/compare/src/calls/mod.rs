@@ -1,8 +1,10 @@
 //! Calls of the library, each compared with the reference: the answer and every byte lent.
 
+pub mod explain;
 pub mod files;
 pub mod formats;
 pub mod journal;
+mod known;
 pub mod library;
 pub mod offsets;
 pub mod seen;

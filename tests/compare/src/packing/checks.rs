@@ -5,33 +5,47 @@ use compare::calls::{answer, cell_difference, note, outcome};
 use compare::lent::LentPart;
 use compare::report::{hex, Group, Outcome};
 use reference::memory::Rng;
-use reference::packing::{packed, unpacked, UnpackedBytes};
+use reference::packing::{packed, unpacked, UnpackAnswer, UnpackedBytes};
+use std::collections::BTreeSet;
 
 /// Makes a fresh dirty fill for every call and counts the answers given.
 pub struct PackingChecker {
     fills: Rng,
     pub unpack_answers: [u64; 3],
+    pub would_answers: [u64; 4],
     pub pack_answers: [u64; 2],
+    /// The lengths that unpacking found.
+    pub lengths: BTreeSet<u64>,
 }
 
-/// The answer, the number that goes with it, and the bytes of the part after it.
+/// The answer, the numbers that go with it, and the bytes of the part after it.
 pub struct Expected {
     pub answer: u32,
-    /// The place of the first bad code, or the packed length.
-    pub number: u64,
+    /// The place of the first bad code and the length found, or the packed length alone.
+    pub numbers: Vec<u64>,
     pub part: Vec<u8>,
 }
 
-pub fn expected_unpack(result: &UnpackedBytes, length: usize) -> Expected {
-    let (answer, number, part) = match result {
-        UnpackedBytes::Malformed(place) => (1, *place as u64, vec![0; length]),
-        UnpackedBytes::Bytes(bytes) if bytes.len() == length => (0, 0, bytes.clone()),
-        UnpackedBytes::Bytes(_) => (2, 0, vec![0; length]),
-    };
-    Expected {
-        answer,
-        number,
-        part,
+/// The first part that the library does not say anything of without one.
+const DUE_TOO_LARGE: u64 = 65_536;
+
+/// The answer, the place of the first bad code and the length found.
+pub fn unpack_figures(answer: UnpackAnswer) -> (u32, u64, u64) {
+    match answer {
+        UnpackAnswer::Good => (0, 0, 0),
+        UnpackAnswer::Malformed(place) => (1, place as u64, 0),
+        UnpackAnswer::WrongLength(found) => (2, 0, found as u64),
+    }
+}
+
+fn expected_unpack(result: &UnpackedBytes, length: usize) -> (UnpackAnswer, Vec<u8>) {
+    match result {
+        UnpackedBytes::Malformed(place) => (UnpackAnswer::Malformed(*place), vec![0; length]),
+        UnpackedBytes::Bytes(bytes) if bytes.len() == length => (UnpackAnswer::Good, bytes.clone()),
+        UnpackedBytes::Bytes(bytes) => {
+            let answer = UnpackAnswer::of_length(bytes.len(), length);
+            (answer, vec![0; length])
+        }
     }
 }
 
@@ -42,7 +56,7 @@ fn expected_pack(code: &[u8], length: usize) -> Expected {
     part.resize(length, 0);
     Expected {
         answer: u32::from(!fits),
-        number,
+        numbers: vec![number],
         part,
     }
 }
@@ -60,7 +74,9 @@ impl PackingChecker {
         PackingChecker {
             fills: Rng::new(seed),
             unpack_answers: [0; 3],
+            would_answers: [0; 4],
             pack_answers: [0; 2],
+            lengths: BTreeSet::new(),
         }
     }
 
@@ -75,36 +91,90 @@ impl PackingChecker {
         lengths.extend(others);
         let source = LentPart::holding(src, self.fills.word());
         for length in lengths {
-            let expected = expected_unpack(&result, length);
-            self.unpack_call(&source, src, &expected)?;
+            let (answer, part) = expected_unpack(&result, length);
+            self.unpack_call(&source, src, answer, part)?;
         }
         Ok(())
     }
 
-    /// One call of unpack on `source`, which holds `src`.
-    pub fn unpack_call(&mut self, source: &LentPart, src: &[u8], expected: &Expected) -> Outcome {
-        self.unpack_answers[expected.answer as usize] += 1;
-        self.call("unpack", ffi_packing::unpack, source, src, expected)
+    /// One call of unpack on `source`, which holds `src`, and the same without a part.
+    pub fn unpack_call(
+        &mut self,
+        source: &LentPart,
+        src: &[u8],
+        told: UnpackAnswer,
+        part: Vec<u8>,
+    ) -> Outcome {
+        let (answer, place, found) = unpack_figures(told);
+        self.unpack_answers[answer as usize] += 1;
+        self.lengths.extend((answer == 2).then_some(found));
+        let due = part.len() as u64;
+        let expected = Expected {
+            answer,
+            numbers: vec![place, found],
+            part,
+        };
+        let unpack = |src: &[u8], part: &mut [u8], cells: &mut [u64]| {
+            let [_, place, _, found, _] = cells else {
+                return u32::MAX;
+            };
+            ffi_packing::unpack(src, part, place, found)
+        };
+        self.call("unpack", unpack, source, src, &expected)?;
+        self.would_call(source, src, due, told)
     }
 
-    /// One call on `source`, which holds `src`, with its number between two cells that must stay.
+    /// Asks what unpacking into a part of `due` bytes would give.
+    pub fn would_call(
+        &mut self,
+        source: &LentPart,
+        src: &[u8],
+        due: u64,
+        told: UnpackAnswer,
+    ) -> Outcome {
+        let (answer, place, found) = match due < DUE_TOO_LARGE {
+            true => unpack_figures(told),
+            false => (3, 0, 0),
+        };
+        self.would_answers[answer as usize] += 1;
+        let expected = Expected {
+            answer,
+            numbers: vec![place, found],
+            part: Vec::new(),
+        };
+        let would_unpack = |src: &[u8], _: &mut [u8], cells: &mut [u64]| {
+            let [_, place, _, found, _] = cells else {
+                return u32::MAX;
+            };
+            ffi_packing::would_unpack(src, due, place, found)
+        };
+        let name = format!("without a part of {due} bytes: unpack");
+        self.call(&name, would_unpack, source, src, &expected)
+    }
+
+    /// One call on `source`, which holds `src`, with each of its numbers between two cells that must stay.
     fn call(
         &mut self,
         name: &str,
-        call: fn(&[u8], &mut [u8], &mut u64) -> u32,
+        call: impl Fn(&[u8], &mut [u8], &mut [u64]) -> u32,
         source: &LentPart,
         src: &[u8],
         expected: &Expected,
     ) -> Outcome {
         let room = expected.part.len();
         let mut part = LentPart::new(room, self.fills.word());
-        let (guard, dirty) = (self.fills.word(), self.fills.word());
-        let mut cells = [guard, dirty, guard];
-        let given = call(source.part(), part.part_mut(), &mut cells[1]);
+        let guard = self.fills.word();
+        let mut cells = vec![guard; 2 * expected.numbers.len() + 1];
+        for number in 0..expected.numbers.len() {
+            cells[2 * number + 1] = self.fills.word();
+        }
+        let given = call(source.part(), part.part_mut(), &mut cells);
         let mut wrong = Vec::new();
         answer(&mut wrong, given, expected.answer);
-        let number = cell_difference(cells, guard, expected.number);
-        note(&mut wrong, "number", number);
+        for (at, number) in expected.numbers.iter().enumerate() {
+            let cells = [cells[2 * at], cells[2 * at + 1], cells[2 * at + 2]];
+            note(&mut wrong, "number", cell_difference(cells, guard, *number));
+        }
         note(&mut wrong, "part", part.difference(&expected.part));
         note(&mut wrong, "source", source.difference(src));
         outcome(wrong).map_err(|what| format!("{name} {} into {room} bytes: {what}", hex(src)))
@@ -123,17 +193,15 @@ impl PackingChecker {
         }
         let mut lengths = around(code.len());
         lengths.extend(others);
+        let pack = |src: &[u8], part: &mut [u8], cells: &mut [u64]| {
+            ffi_packing::pack(src, part, &mut cells[1])
+        };
         for length in lengths {
             let expected = expected_pack(&code, length);
             self.pack_answers[expected.answer as usize] += 1;
-            self.call("pack", ffi_packing::pack, &source, src, &expected)?;
+            self.call("pack", pack, &source, src, &expected)?;
         }
         let source = LentPart::holding(&code, self.fills.word());
-        let expected = Expected {
-            answer: 0,
-            number: 0,
-            part: src.to_vec(),
-        };
-        self.unpack_call(&source, &code, &expected)
+        self.unpack_call(&source, &code, UnpackAnswer::Good, src.to_vec())
     }
 }

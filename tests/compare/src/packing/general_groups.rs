@@ -1,7 +1,7 @@
 //! The examples of the rules, round trips, and independence of what stood before.
 
 use super::checks::PackingChecker;
-use crate::ffi_packing::{pack, packed_len, unpack};
+use crate::ffi_packing::{pack, packed_len, unpack, would_unpack};
 use compare::lent::LentPart;
 use compare::report::{hex, Group, Outcome};
 use reference::memory::Rng;
@@ -65,15 +65,16 @@ pub fn round_trips(group: &mut Group, rng: &mut Rng) -> Outcome {
     for case in 0..60_000 {
         let data = rng.runs(20, if case % 20 == 0 { 700 } else { 8 });
         group.inputs += 1;
-        let (mut length, mut place) = (rng.word(), rng.word());
+        let [mut length, mut place, mut found] = [rng.word(), rng.word(), rng.word()];
         let room = packed_len(&data) as usize;
         let mut code = LentPart::new(room, rng.word());
         let mut back = LentPart::new(data.len(), rng.word());
         let first = pack(&data, code.part_mut(), &mut length);
-        let second = unpack(code.part(), back.part_mut(), &mut place);
+        let second = unpack(code.part(), back.part_mut(), &mut place, &mut found);
         let difference = back.difference(&data);
-        if (first, length as usize, second, place) != (0, room, 0, 0) || difference.is_some() {
-            let answers = format!("answers {first} {second}, lengths {room} {length}, {place}");
+        let numbers = (length as usize, place, found);
+        if (first, second, numbers) != (0, 0, (room, 0, 0)) || difference.is_some() {
+            let answers = format!("answers {first} {second}, {numbers:?}, not {room}");
             return Err(format!("{}: {answers}, {difference:?}", hex(&data)));
         }
     }
@@ -97,11 +98,14 @@ pub fn nothing_before(group: &mut Group, rng: &mut Rng) -> Outcome {
             let fill = rng.word();
             let run = |fill: u64| {
                 let (mut one, mut two) = (LentPart::new(room, fill), LentPart::new(room, !fill));
-                let (mut place, mut length) = (fill, !fill);
-                let unpack = unpack(&src, one.part_mut(), &mut place);
+                let [mut place, mut found, mut length] = [fill, fill, !fill];
+                let unpack = unpack(&src, one.part_mut(), &mut place, &mut found);
+                let unpacked = (unpack, place, found);
+                (place, found) = (!fill, fill);
+                let would = would_unpack(&src, room as u64, &mut place, &mut found);
                 let pack = pack(&src, two.part_mut(), &mut length);
                 let parts = (one.part().to_vec(), two.part().to_vec());
-                ((unpack, place), (pack, length), parts)
+                (unpacked, (would, place, found), (pack, length), parts)
             };
             let (first, second) = (run(fill), run(!fill));
             if first != second {
@@ -113,12 +117,17 @@ pub fn nothing_before(group: &mut Group, rng: &mut Rng) -> Outcome {
     Ok(())
 }
 
-/// Every answer of both calls was among the ones compared.
+/// Every answer of the three calls was among the ones compared.
 pub fn answers_seen(check: &PackingChecker) -> Outcome {
-    let mut all = check.unpack_answers.iter().chain(&check.pack_answers);
-    if all.any(|n| *n < 1000) {
-        let (unpack, pack) = (check.unpack_answers, check.pack_answers);
-        return Err(format!("unpack {unpack:?}, pack {pack:?}"));
+    let (unpack, would, pack) = (
+        &check.unpack_answers,
+        &check.would_answers,
+        &check.pack_answers,
+    );
+    let given = format!("unpack {unpack:?}, without a part {would:?}, pack {pack:?}");
+    println!("    {given}");
+    match unpack.iter().chain(would).chain(pack).any(|n| *n < 1000) {
+        true => Err(given),
+        false => Ok(()),
     }
-    Ok(())
 }

@@ -2,6 +2,7 @@
 
 pub mod checks;
 pub mod general_groups;
+pub mod length_groups;
 pub mod pack_groups;
 pub mod place_groups;
 pub mod unpack_groups;
