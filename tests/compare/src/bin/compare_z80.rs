@@ -1,4 +1,4 @@
-//! Compares reading and writing of `.z80` files by the library with the reference on generated files.
+//! Compares reading, explaining and writing of `.z80` files by the library with the reference on generated files.
 #![deny(unsafe_code)]
 
 #[path = "../z80/mod.rs"]
@@ -11,15 +11,15 @@ use compare::report::{Group, Outcome, Report};
 use std::process::ExitCode;
 use z80::maker::Maker;
 use z80::place_groups::TOLD_PLACES;
-use z80::{block_groups, code_groups, fault_groups, head_groups, header_groups};
-use z80::{order_groups, place_groups, write_groups};
+use z80::{block_groups, code_groups, explain_groups, fault_groups, head_groups, header_groups};
+use z80::{order_groups, place_groups, told_figures, write_groups};
 
-/// Generated files that a run must at least read.
+/// Generated files that a run must at least read and explain.
 const LEAST_FILES: u64 = 200_000;
 
 type Run = fn(&mut Group, &mut FileChecker, &mut Maker) -> Outcome;
 
-const GROUPS: [(&str, Run); 36] = [
+const GROUPS: [(&str, Run); 43] = [
     ("examples", |g, c, _| header_groups::examples(g, c)),
     ("every mode", header_groups::modes),
     ("every value of byte 12", |g, c, m| {
@@ -56,6 +56,13 @@ const GROUPS: [(&str, Run); 36] = [
     ("no offset", place_groups::without_offset),
     ("no offset in other buffers", place_groups::other_buffers),
     ("no offset for the header", place_groups::header_first),
+    ("2 at every length", explain_groups::short_files),
+    ("6 of each counter", explain_groups::counters),
+    ("12 of every length", explain_groups::block_lengths),
+    ("12 of packed v1 bodies", explain_groups::packed_bodies),
+    ("12 of plain v1 bodies", explain_groups::plain_bodies),
+    ("13 of every choice", explain_groups::missing_blocks),
+    ("the first of two blocks", explain_groups::first_of_two),
     ("write into outputs", write_groups::rooms),
     ("write whole images", write_groups::whole_images),
     ("write every header byte", write_groups::every_header_byte),
@@ -76,5 +83,8 @@ fn main() -> ExitCode {
     report.fact("every number seen", check.numbers_seen(LEAST_FILES));
     report.fact("every offset seen", check.offsets_seen(LEAST_OFFSETS));
     report.fact("every place seen", check.places.all(&TOLD_PLACES));
+    report.fact("every file explained", check.figures.files(LEAST_FILES));
+    report.fact("every block told", told_figures::blocks(&check.figures));
+    report.fact("every figure told", told_figures::pairs(&check.figures));
     report.finish()
 }

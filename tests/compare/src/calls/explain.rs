@@ -113,6 +113,15 @@ impl FigureCounts {
         }
     }
 
+    /// A number was told with each of these due and with no other.
+    pub fn expect_dues(&self, number: u32, all: &[u64]) -> Outcome {
+        let told = self.dues(number);
+        match told == all.iter().copied().collect() {
+            true => Ok(()),
+            false => Err(format!("{number} was told with {told:?} due, not {all:?}")),
+        }
+    }
+
     /// A number was told with each of these pairs of what was found and what was due.
     pub fn expect_pairs(
         &self,

@@ -28,13 +28,20 @@ impl FileChecker {
         }
     }
 
-    /// The file of the last read was explained with the ordinal and the figures that the group knows before.
-    pub fn expect_figures(&self, block: usize, found: usize, due: usize) -> Outcome {
-        let told = &self.last_explained;
-        let known = (block as u64, found as u64, due as u64);
-        match (told.block, told.found, told.due) == known {
+    /// The file of the last read was explained with the ordinal that the group knows before.
+    pub fn expect_block(&self, block: usize) -> Outcome {
+        match self.last_explained.block {
+            told if told == block as u64 => Ok(()),
+            told => Err(format!("the reference tells block {told}, not {block}")),
+        }
+    }
+
+    /// It was explained with what was found and what was due as the group knows them before.
+    pub fn expect_figures(&self, found: usize, due: usize) -> Outcome {
+        let told = (self.last_explained.found, self.last_explained.due);
+        match told == (found as u64, due as u64) {
             true => Ok(()),
-            false => Err(format!("the reference explains {told:?}, not {known:?}")),
+            false => Err(format!("the reference tells {told:?}, not {found}, {due}")),
         }
     }
 

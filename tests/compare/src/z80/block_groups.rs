@@ -16,6 +16,8 @@ pub fn good(group: &mut Group, check: &mut FileChecker, maker: &mut Maker) -> Ou
         let sample = maker.sample(VERSIONS[case % 3]);
         let answer = check.read(group, &sample.bytes())?;
         expect(answer, 0)?;
+        check.expect_block(0)?;
+        check.expect_figures(0, 0)?;
     }
     Ok(())
 }
@@ -108,15 +110,16 @@ pub fn changed(group: &mut Group, check: &mut FileChecker, maker: &mut Maker) ->
     Ok(())
 }
 
-/// The number and the offset of a good file of this length without what stands from a place after its header on.
-fn cut_number(sample: &FileParts, length: usize, end: usize) -> (u32, usize) {
+/// The number, the offset, the block and the figures of a good file of this length without what stands from a place
+/// after its header on.
+fn cut_file(sample: &FileParts, length: usize, end: usize) -> (u32, usize, usize, (usize, usize)) {
     let borders = sample.borders();
     let next = borders.partition_point(|border| *border < end);
     match sample.version {
-        _ if end == length => (0, 0),
-        Version::V1 => (14, end),
-        _ if borders[next] == end => (13, 0),
-        _ => (8, borders[next - 1]),
+        _ if end == length => (0, 0, 0, (0, 0)),
+        Version::V1 => (14, end, 1, (0, 0)),
+        _ if borders[next] == end => (13, 0, 0, (next, sample.blocks.len())),
+        _ => (8, borders[next - 1], next, (0, 0)),
     }
 }
 
@@ -135,9 +138,11 @@ pub fn every_cut(group: &mut Group, check: &mut FileChecker, maker: &mut Maker) 
             expect(check.read(group, &good[..end])?, 2)?;
         }
         for end in sample.header.len()..=good.len() {
-            let (number, offset) = cut_number(&sample, good.len(), end);
+            let (number, offset, block, (found, due)) = cut_file(&sample, good.len(), end);
             expect(check.read(group, &good[..end])?, number)?;
             check.expect_offset(offset)?;
+            check.expect_block(block)?;
+            check.expect_figures(found, due)?;
         }
         for at in sample.header.len()..good.len() {
             for value in [

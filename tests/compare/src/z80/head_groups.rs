@@ -9,9 +9,10 @@ use compare::calls::offsets::KnownRefusal;
 use compare::report::{Group, Outcome};
 use reference::machine::{Machine, Version};
 use reference::memory::PAGE;
+use reference::packing::MOST_COUNTED;
 
 /// The bytes that a v1 body stands for.
-const V1_BODY: usize = 3 * PAGE;
+pub const V1_BODY: usize = 3 * PAGE;
 
 /// Reads a file that is refused at the head of a block, one of those from `first` on.
 fn refused_at_head(
@@ -27,21 +28,31 @@ fn refused_at_head(
         offset: borders[place],
         possible: borders[first]..=borders[sample.blocks.len() - 1],
     };
-    check.expect_refused(group, sample.kind(), &sample.bytes(), &known)
+    check.expect_refused(group, sample.kind(), &sample.bytes(), &known)?;
+    check.expect_block(place + 1)
 }
 
-/// 9 in every block: its number is none of the machine's.
+/// 9 in every block, and in one more block: its number is none of the machine's.
 pub fn foreign_numbers(group: &mut Group, check: &mut FileChecker, maker: &mut Maker) -> Outcome {
     for case in 0..FILES_OF_A_GROUP {
         let good = any_block_file(maker, case);
         let owned = Machine::blocks(good.model);
         let other = |number: &u8| owned.iter().all(|(own, _)| own != number);
         let foreign: Vec<u8> = (0..=255).filter(other).collect();
-        for place in 0..good.blocks.len() {
+        let count = good.blocks.len();
+        for place in 0..=count {
             let mut sample = good.clone();
             let near = maker.rng.below(13).min(foreign.len() - 1);
-            sample.blocks[place].number = maker.rng.pick(&[foreign[near], 255, foreign[0]]);
+            let number = maker.rng.pick(&[foreign[near], 255, foreign[0]]);
+            match place < count {
+                true => sample.blocks[place].number = number,
+                false => {
+                    let coding = maker.codings.quick(&mut maker.rng);
+                    sample.blocks.push(CodedBlock { number, coding });
+                }
+            }
             refused_at_head(group, check, &sample, 9, (0, place))?;
+            check.expect_figures(0, 0)?;
         }
     }
     Ok(())
@@ -61,6 +72,7 @@ pub fn numbers_twice(group: &mut Group, check: &mut FileChecker, maker: &mut Mak
                 sample.blocks.remove(place + 1);
             }
             refused_at_head(group, check, &sample, 10, (1, place))?;
+            check.expect_figures(0, 0)?;
         }
     }
     Ok(())
@@ -76,6 +88,7 @@ pub fn wrong_lengths(group: &mut Group, check: &mut FileChecker, maker: &mut Mak
                 let data = constant(length, maker.rng.likely_byte());
                 sample.blocks[place].coding = Coding::packed(data);
                 refused_at_head(group, check, &sample, 12, (0, place))?;
+                check.expect_figures(length.min(MOST_COUNTED), PAGE)?;
             }
         }
     }
@@ -88,19 +101,21 @@ pub fn cut_blocks(group: &mut Group, check: &mut FileChecker, maker: &mut Maker)
         let good = any_block_file(maker, case);
         let (borders, file) = (good.borders(), good.bytes());
         let (first, last) = (borders[0], borders[good.blocks.len()]);
-        let mut refused = |file: &[u8], offset: usize| {
+        let mut refused = |file: &[u8], place: usize| {
             let known = KnownRefusal {
                 number: 8,
-                offset,
+                offset: borders[place],
                 possible: first..=last,
             };
-            check.expect_refused(group, good.kind(), file, &known)
+            check.expect_refused(group, good.kind(), file, &known)?;
+            check.expect_block(place + 1)?;
+            check.expect_figures(0, 0)
         };
-        for pair in borders.windows(2) {
+        for (place, pair) in borders.windows(2).enumerate() {
             let (head, after) = (pair[0], pair[1]);
             let inside = head + 1 + maker.rng.below(after - head - 1);
             for end in [head + 1, head + 2, head + Z80_BLOCK_HEAD, inside, after - 1] {
-                refused(&file[..end], head)?;
+                refused(&file[..end], place)?;
             }
             let left = last - head - Z80_BLOCK_HEAD;
             for length in [left + 1, left + 300, 0xFFFE] {
@@ -108,13 +123,13 @@ pub fn cut_blocks(group: &mut Group, check: &mut FileChecker, maker: &mut Maker)
                 if left < length && length < 0xFFFF {
                     let mut longer = file.clone();
                     longer[head..head + 2].copy_from_slice(&(length as u16).to_le_bytes());
-                    refused(&longer, head)?;
+                    refused(&longer, place)?;
                 }
             }
         }
         for length in 1..=2 {
             let more = maker.rng.bytes(length);
-            refused(&[&file[..], &more].concat(), last)?;
+            refused(&[&file[..], &more].concat(), good.blocks.len())?;
         }
     }
     Ok(())
@@ -136,6 +151,8 @@ pub fn v1_lengths(group: &mut Group, check: &mut FileChecker, maker: &mut Maker)
             }
             let known = KnownRefusal::only(12, 30);
             check.expect_refused(group, "v1", &sample.bytes(), &known)?;
+            check.expect_block(1)?;
+            check.expect_figures(length.min(MOST_COUNTED), V1_BODY)?;
         }
     }
     Ok(())
@@ -156,6 +173,8 @@ pub fn v1_markers(group: &mut Group, check: &mut FileChecker, maker: &mut Maker)
         }
         let known = KnownRefusal::only(14, 30 + length);
         check.expect_refused(group, "v1", &sample.bytes(), &known)?;
+        check.expect_block(1)?;
+        check.expect_figures(0, 0)?;
     }
     Ok(())
 }

@@ -3,6 +3,7 @@
 pub mod block_groups;
 pub mod code_groups;
 pub mod coding;
+pub mod explain_groups;
 pub mod fault_groups;
 pub mod faults;
 pub mod head_groups;
@@ -11,4 +12,5 @@ pub mod maker;
 pub mod order_groups;
 pub mod place_groups;
 pub mod sample;
+pub mod told_figures;
 pub mod write_groups;
