@@ -1,4 +1,5 @@
-//! The comparison over stored files: reading them, and writing what they hold.
+//! The comparison over stored files: reading and explaining them, and writing what they hold.
 
+pub mod explained;
 pub mod stored;
 pub mod written;
