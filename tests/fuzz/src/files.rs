@@ -1,7 +1,7 @@
 //! Files of one format: read, and written from what an input describes.
 
 use super::input::Picked;
-use super::reached::{mark, FormatRows, SCS_ROWS, Z80_ROWS};
+use super::reached::{mark, FormatRows, BLOCK_ROW, FOUND_ROW, SCS_ROWS, Z80_ROWS};
 use compare::calls::files::FileChecker;
 use compare::calls::formats::{SCS_FORMAT, Z80_FORMAT};
 use compare::report::{Group, Outcome};
@@ -16,6 +16,8 @@ pub struct FormatTarget {
     case_of: fn(&[u8]) -> u8,
     /// The file of a machine and a memory.
     file_of: fn(&Machine, &[u8]) -> Vec<u8>,
+    /// Whether reading a file also explains it.
+    is_explained: bool,
 }
 
 impl FormatTarget {
@@ -25,6 +27,7 @@ impl FormatTarget {
             rows: Z80_ROWS,
             case_of: z80_case,
             file_of: z80::write,
+            is_explained: true,
         }
     }
 
@@ -34,16 +37,22 @@ impl FormatTarget {
             rows: SCS_ROWS,
             case_of: scs_case,
             file_of: scs::write,
+            is_explained: false,
         }
     }
 
-    /// A file; what it holds is written and read back, and written into an output of another length.
+    /// A file, read and explained; what it holds is written and read back, and written into an output of another length.
     pub fn read(&mut self, calls: &mut Group, picked: &Picked, file: &[u8]) -> Outcome {
         let checker = &mut self.checker;
         let number = checker.read_into(calls, file, picked.area, picked.header)?;
         let case = picked.case(number, (self.case_of)(file));
         mark(self.rows.read, number, case);
-        mark(self.rows.offset, number, offset_case(checker.last_offset));
+        mark(self.rows.offset, number, far_case(checker.last_offset));
+        if self.is_explained {
+            let told = &checker.last_explained;
+            mark(BLOCK_ROW, told.number, told.block.min(7) as u8);
+            mark(FOUND_ROW, told.number, far_case(told.found));
+        }
         if number != 0 {
             return Ok(());
         }
@@ -81,9 +90,10 @@ impl FormatTarget {
     }
 }
 
-/// Offsets that are about as far from the start: those below 16, below 64, below 256, and so on.
-fn offset_case(offset: u64) -> u8 {
-    let bits = u64::BITS - offset.leading_zeros();
+/// Offsets that are about as far from the start, and figures about as far from 0: those below 16, below 64, below 256,
+/// and so on.
+fn far_case(number: u64) -> u8 {
+    let bits = u64::BITS - number.leading_zeros();
     (bits as u8).saturating_sub(4).div_ceil(2)
 }
 

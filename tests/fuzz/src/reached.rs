@@ -3,7 +3,8 @@
 use compare::calls::seen::{CountedFunction, NUMBERS};
 use std::sync::atomic::{AtomicU8, Ordering};
 
-/// The rows of cells: reading and writing of each format with the offsets told, and the functions of the log.
+/// The rows of cells: reading and writing of each format with the offsets told, the functions of the log, and the blocks
+/// and the figures that explaining tells.
 pub const Z80_ROWS: FormatRows = FormatRows {
     read: 0,
     write: 1,
@@ -14,7 +15,9 @@ pub const SCS_ROWS: FormatRows = FormatRows {
     write: 10,
     offset: 12,
 };
-const ROWS: usize = 13;
+pub const BLOCK_ROW: usize = 13;
+pub const FOUND_ROW: usize = 14;
+const ROWS: usize = 15;
 
 pub struct FormatRows {
     pub read: usize,

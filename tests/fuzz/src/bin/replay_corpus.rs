@@ -1,7 +1,9 @@
 //! replay_corpus [FOLDER..]: runs every file of the folders (tests/fuzz/corpus) as an input of the fuzz target. All of
-//! them together reach every number, and each that has an offset at several places.
+//! them together reach every number, each that has an offset at several places and in eight blocks, and each figure that
+//! can be due.
 #![forbid(unsafe_code)]
 
+use compare::calls::explain::FigureCounts;
 use compare::report::{Group, Outcome, Report};
 use fuzz::input::{Input, InputMode, MODES};
 use fuzz::target::Target;
@@ -12,8 +14,37 @@ use std::process::ExitCode;
 const LEAST_INPUTS: u64 = 200;
 const LEAST_MODELLED: u64 = 2_000;
 
-/// Different offsets that each number with an offset must at least have.
+/// Different offsets that each number with an offset must at least have, and different blocks.
 const LEAST_CORPUS_OFFSETS: usize = 3;
+const LEAST_CORPUS_BLOCKS: usize = 8;
+
+/// Files of the corpus that are explained.
+const LEAST_CORPUS_FILES: u64 = 300;
+
+/// What can be due with each number that has figures, and the ends of what can be found.
+const CORPUS_DUES: [(u32, &[u64]); 4] = [
+    (2, &[30, 32, 55, 86]),
+    (6, &[3, 17_471, 17_726]),
+    (12, &[16_384, 49_152]),
+    (13, &[3, 8]),
+];
+const CORPUS_PAIRS: [(u32, &[(u64, u64)]); 4] = [
+    (
+        2,
+        &[(0, 30), (29, 30), (30, 32), (31, 32), (54, 55), (85, 86)],
+    ),
+    (6, &[(17_472, 17_471), (17_727, 17_726), (4, 3), (255, 3)]),
+    (
+        12,
+        &[
+            (0, 16_384),
+            (65_535, 16_384),
+            (65_536, 16_384),
+            (65_536, 49_152),
+        ],
+    ),
+    (13, &[(0, 3), (2, 3), (0, 8), (7, 8)]),
+];
 
 /// The files of the folders by name, each with its bytes.
 fn inputs(folders: &[String]) -> Result<Vec<(String, Vec<u8>)>> {
@@ -45,6 +76,24 @@ fn run(
     Ok(())
 }
 
+/// The numbers of blocks were told in eight of them, and every figure that can be due was.
+fn explained(told: &FigureCounts) -> Outcome {
+    told.files(LEAST_CORPUS_FILES)?;
+    for number in 8..=12 {
+        let blocks = told.blocks(number);
+        if blocks.len() < LEAST_CORPUS_BLOCKS {
+            return Err(format!("{number} in blocks {blocks:?}"));
+        }
+    }
+    for (number, dues) in CORPUS_DUES {
+        told.expect_dues(number, dues)?;
+    }
+    for (number, pairs) in CORPUS_PAIRS {
+        told.expect_pairs(number, pairs.iter().copied())?;
+    }
+    Ok(())
+}
+
 fn main() -> Result<ExitCode> {
     let mut folders: Vec<String> = std::env::args().skip(1).collect();
     if folders.is_empty() {
@@ -65,6 +114,11 @@ fn main() -> Result<ExitCode> {
         report.fact(&numbers, format.checker.numbers_seen(1));
         report.fact(&offsets, format.checker.offsets_seen(LEAST_CORPUS_OFFSETS));
     }
+    let [z80, _] = &target.formats;
+    report.fact(
+        "explanations of .z80 files",
+        explained(&z80.checker.figures),
+    );
     report.fact("every number of the log", target.journal.seen.all(1));
     let modelled = match target.modelled {
         LEAST_MODELLED.. => Ok(()),
