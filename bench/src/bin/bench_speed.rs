@@ -1,6 +1,7 @@
 //! Times packing, unpacking, reading and writing of the ten stored 128K files by the library, by the reference in
 //! its ordinary and its word-wise form (the anchor) and by libspectrum, prints the ratios of the times, and draws
-//! them. Takes the path of the drawing and the folder of the files.
+//! them. Explaining is timed beside the reference and beside reading. Takes the path of the drawing and the folder of
+//! the files.
 #![deny(unsafe_code)]
 
 #[path = "../../../tests/compare/src/ffi_packing.rs"]
@@ -17,7 +18,7 @@ use bench::timing::ROUNDS;
 use bench::verdict::{at_least, at_most};
 use reference::memory::Rng;
 use speed::Who::{Library, Libspectrum, Ordinary, Wordwise};
-use speed::{packing, plot, table, z80, DirectionTimes};
+use speed::{explain, packing, plot, table, z80, DirectionTimes};
 
 /// The library's time over that of ordinary Rust.
 const A10_TARGET: f64 = 1.50;
@@ -74,6 +75,7 @@ fn main() {
     let files = speed::all(&given.next().unwrap_or("tests/files".into()));
     files.iter().for_each(packing::check);
     files.iter().for_each(z80::check);
+    files.iter().for_each(explain::check);
     let rng = &mut Rng::new(3);
     println!("microseconds of the library per file and over all ten, medians of {ROUNDS} interleaved runs;");
     println!("then ratios to word-wise Rust, medians of the ratio in each run");
@@ -86,6 +88,9 @@ fn main() {
     let ways = [z80::READ, z80::WRITE];
     let stored = table::measure(ways, &[Library, Ordinary, Libspectrum], &files, rng);
     judge_z80(&stored);
+    println!();
+    println!("microseconds to explain a file; ratios to Rust, and to the library's reading of the same file");
+    explain::measure(&files, rng);
     let ([unpack, pack], [read, write]) = (&packed, &stored);
     let svg = plot::draw(&files, [unpack, pack, read, write]);
     std::fs::write(&drawing, svg).expect(&drawing);

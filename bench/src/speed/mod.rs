@@ -1,5 +1,6 @@
 //! The parts of the benchmark of packing and of `.z80` files.
 
+pub mod explain;
 mod files;
 mod measured;
 pub mod packing;

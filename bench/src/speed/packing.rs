@@ -29,11 +29,11 @@ const PACKERS: [(Who, Pack); 3] = [
 ];
 
 fn library_unpack(block: &[u8], part: &mut [u8]) -> UnpackAnswer {
-    let mut place = 0;
-    match ffi_packing::unpack(block, part, &mut place) {
+    let (mut place, mut found) = (0, 0);
+    match ffi_packing::unpack(block, part, &mut place, &mut found) {
         0 => UnpackAnswer::Good,
         1 => UnpackAnswer::Malformed(place as usize),
-        _ => UnpackAnswer::WrongLength,
+        _ => UnpackAnswer::WrongLength(found as usize),
     }
 }
 
@@ -61,6 +61,9 @@ pub fn check(stored: &StoredFile) {
             let damaged = [block, &[0, ED, ED, 0, 0]].concat();
             let told = UnpackAnswer::Malformed(block.len() + 1);
             assert_eq!(unpack(&damaged, &mut part), told);
+            let longer = [block, &[0; 9]].concat();
+            let told = UnpackAnswer::WrongLength(PAGE + 9);
+            assert_eq!(unpack(&longer, &mut part), told);
         }
     }
     for page in stored.pages() {
