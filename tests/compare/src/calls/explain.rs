@@ -1,7 +1,7 @@
 //! Explaining of files: one call compared, and the figures that were told.
 
 use super::formats::Explaining;
-use super::{answer, note, outcome};
+use super::{note, outcome};
 use crate::lent::LentPart;
 use crate::report::Outcome;
 use reference::memory::Rng;
@@ -18,13 +18,13 @@ pub fn explain_call(
     file: &[u8],
     read: (u32, u64),
 ) -> Result<ExplainFigures, String> {
-    let due = (calls.reference)(file);
+    let told = (calls.reference)(file);
     let source = LentPart::holding(file, fills.word());
     let guard = fills.word();
     let mut cells = [guard; 9];
     (1..9).step_by(2).for_each(|at| cells[at] = fills.word());
-    let [_, offset, _, block, _, found, _, most, _] = &mut cells;
-    let number = (calls.library)(source.part(), offset, block, found, most);
+    let [_, offset, _, block, _, found, _, due, _] = &mut cells;
+    let number = (calls.library)(source.part(), offset, block, found, due);
     let cells = black_box(cells);
     let given = ExplainFigures {
         number,
@@ -34,9 +34,8 @@ pub fn explain_call(
         due: cells[7],
     };
     let mut wrong = Vec::new();
-    answer(&mut wrong, given.number, due.number);
-    if given != due {
-        wrong.push(format!("{given:?}, should be {due:?}"));
+    if given != told {
+        wrong.push(format!("{given:?}, should be {told:?}"));
     }
     if (given.number, given.offset) != read {
         wrong.push(format!("{given:?}, but read as {read:?}"));
@@ -45,10 +44,10 @@ pub fn explain_call(
         wrong.push("a cell beside the four figures was changed".into());
     }
     note(&mut wrong, "file", source.difference(file));
-    outcome(wrong).map(|()| due)
+    outcome(wrong).map(|()| told)
 }
 
-/// The ordinal, what was found and what was due: how often each number was told with them.
+/// Which ordinals, what found and what due each number was told with.
 #[derive(Default)]
 pub struct FigureCounts {
     files: u64,

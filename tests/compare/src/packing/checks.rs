@@ -14,7 +14,7 @@ pub struct PackingChecker {
     pub unpack_answers: [u64; 3],
     pub would_answers: [u64; 4],
     pub pack_answers: [u64; 2],
-    /// The lengths that unpacking found.
+    /// The wrong lengths that were found.
     pub lengths: BTreeSet<u64>,
 }
 
@@ -26,11 +26,11 @@ pub struct Expected {
     pub part: Vec<u8>,
 }
 
-/// The first part that the library does not say anything of without one.
+/// The least length that is not asked for without a part.
 const DUE_TOO_LARGE: u64 = 65_536;
 
 /// The answer, the place of the first bad code and the length found.
-pub fn unpack_figures(answer: UnpackAnswer) -> (u32, u64, u64) {
+fn unpack_figures(answer: UnpackAnswer) -> (u32, u64, u64) {
     match answer {
         UnpackAnswer::Good => (0, 0, 0),
         UnpackAnswer::Malformed(place) => (1, place as u64, 0),
@@ -41,11 +41,10 @@ pub fn unpack_figures(answer: UnpackAnswer) -> (u32, u64, u64) {
 fn expected_unpack(result: &UnpackedBytes, length: usize) -> (UnpackAnswer, Vec<u8>) {
     match result {
         UnpackedBytes::Malformed(place) => (UnpackAnswer::Malformed(*place), vec![0; length]),
-        UnpackedBytes::Bytes(bytes) if bytes.len() == length => (UnpackAnswer::Good, bytes.clone()),
-        UnpackedBytes::Bytes(bytes) => {
-            let answer = UnpackAnswer::of_length(bytes.len(), length);
-            (answer, vec![0; length])
-        }
+        UnpackedBytes::Bytes(bytes) => match UnpackAnswer::of_length(bytes.len(), length) {
+            UnpackAnswer::Good => (UnpackAnswer::Good, bytes.clone()),
+            refused => (refused, vec![0; length]),
+        },
     }
 }
 

@@ -7,7 +7,7 @@ use compare::report::{Group, Outcome};
 use reference::memory::Rng;
 use reference::packing::{would_unpack, UnpackAnswer, ED, MOST_COUNTED};
 
-/// Where counts, pages and bodies end, and far past that.
+/// Where runs, pages, bodies and counting end, and far past that.
 const LENGTHS: [usize; 18] = [
     0, 1, 254, 255, 256, 16_383, 16_384, 16_385, 49_151, 49_152, 49_153, 65_534, 65_535, 65_536,
     65_537, 65_792, 131_072, 4_177_665,
@@ -18,21 +18,21 @@ const PARTS: [usize; 9] = [
     0, 1, 16_384, 49_152, 65_534, 65_535, 65_536, 65_537, 131_072,
 ];
 
-/// Data that stand for so many bytes: codes of every count, plain bytes between them, single EDs.
+/// Data that stand for so many bytes: codes of every count, a few plain bytes between them, some after a single ED.
 fn standing_for(rng: &mut Rng, length: usize) -> Vec<u8> {
     let mut data = Vec::new();
     let mut left = length;
     while left > 0 {
         let count = match rng.below(8) {
             _ if length > 200_000 => 255,
-            0 => 1,
-            1 => 1 + rng.below(255),
+            0..=2 => 1 + rng.below(9),
+            3 => 1 + rng.below(255),
             _ => 255,
         };
         let count = count.min(left);
-        match (rng.below(4), count) {
+        match (rng.below(3), count) {
             (0, 1..=9) => data.extend(plain_front(count)),
-            (1, 2) => data.extend([ED, 0]),
+            (1, 2..=9) => data.extend([&[ED], &plain_front(count - 1)[..]].concat()),
             _ => data.extend([ED, ED, count as u8, rng.likely_byte()]),
         }
         left -= count;
@@ -42,6 +42,7 @@ fn standing_for(rng: &mut Rng, length: usize) -> Vec<u8> {
 
 /// Each length into each part; a bad code after so much counts alone.
 pub fn counted(group: &mut Group, check: &mut PackingChecker, rng: &mut Rng) -> Outcome {
+    check.lengths.clear();
     for length in LENGTHS {
         for _ in 0..12 {
             let src = standing_for(rng, length);
@@ -57,13 +58,8 @@ pub fn counted(group: &mut Group, check: &mut PackingChecker, rng: &mut Rng) -> 
             check.unpack(group, &cut, &PARTS)?;
         }
     }
-    let never = LENGTHS
-        .iter()
-        .map(|length| *length.min(&MOST_COUNTED) as u64);
-    match never
-        .into_iter()
-        .find(|length| !check.lengths.contains(length))
-    {
+    let all = LENGTHS.map(|length| length.min(MOST_COUNTED) as u64);
+    match all.iter().find(|length| !check.lengths.contains(length)) {
         Some(length) => Err(format!("{length} was never found")),
         None => Ok(()),
     }

@@ -5,12 +5,13 @@ use super::head_groups::V1_BODY;
 use super::maker::Maker;
 use super::place_groups::any_block_file;
 use super::sample::FileParts;
-use compare::calls::expect;
 use compare::calls::files::FileChecker;
+use compare::calls::{each_seen, expect};
 use compare::report::{Group, Outcome};
 use reference::machine::Version;
 use reference::memory::PAGE;
 use reference::packing::MOST_COUNTED;
+use std::collections::BTreeSet;
 
 /// Every mode of every version.
 const VERSION_MODES: [(Version, &[u8]); 3] = [
@@ -54,13 +55,10 @@ pub fn counters(group: &mut Group, check: &mut FileChecker, maker: &mut Maker) -
     for mode in [0, 1, 3, 4, 5, 6] {
         let largest = if mode < 4 { 17_471 } else { 17_726 };
         let mut sample = maker.short(Version::V3, mode);
-        let others = [maker.rng.word() as u16, maker.rng.word() as u16];
+        let other = maker.rng.word() as u16;
         for low in [
-            0, 255, 17_470, 17_471, 17_472, 17_726, 17_727, 0x8000, 0xFF00, 0xFFFF,
-        ]
-        .into_iter()
-        .chain(others)
-        {
+            0, 255, 17_470, 17_471, 17_472, 17_726, 17_727, 0x8000, 0xFF00, 0xFFFF, other,
+        ] {
             for high in [0, 3, 4, 5, 127, 128, 255] {
                 for last in [0, 1] {
                     sample.header[55..57].copy_from_slice(&low.to_le_bytes());
@@ -85,12 +83,11 @@ pub fn block_lengths(group: &mut Group, check: &mut FileChecker, maker: &mut Mak
     for case in 0..8 {
         let good = any_block_file(maker, case);
         for place in 0..good.blocks.len() {
-            for length in UNPACKED_LENGTHS
-                .into_iter()
-                .filter(|length| *length != PAGE)
-            {
-                let data = data_of(length, maker);
-                wrong_length(group, check, &good, place, (data, length))?;
+            for length in UNPACKED_LENGTHS {
+                if length != PAGE {
+                    let data = data_of(length, maker);
+                    wrong_length(group, check, &good, place, (data, length))?;
+                }
             }
             let data = [constant(LONGEST_UNPACKED - 2, 0x41), vec![1, 2]].concat();
             wrong_length(group, check, &good, place, (data, LONGEST_UNPACKED))?;
@@ -129,9 +126,7 @@ fn wrong_length(
 
 /// 12 of packed v1 bodies: every length, and as many bytes as no block stands for.
 pub fn packed_bodies(group: &mut Group, check: &mut FileChecker, maker: &mut Maker) -> Outcome {
-    let more = (0..300)
-        .map(|_| maker.rng.below(100_000))
-        .collect::<Vec<_>>();
+    let more: Vec<usize> = (0..300).map(|_| maker.rng.below(100_000)).collect();
     for length in UNPACKED_LENGTHS.into_iter().chain([20_000_000]).chain(more) {
         if length == V1_BODY {
             continue;
@@ -195,6 +190,7 @@ pub fn missing_blocks(group: &mut Group, check: &mut FileChecker, maker: &mut Ma
 
 /// Two blocks of the wrong length, or with another fault in the first of them: the first is told.
 pub fn first_of_two(group: &mut Group, check: &mut FileChecker, maker: &mut Maker) -> Outcome {
+    let (mut numbers, mut blocks) = (BTreeSet::new(), BTreeSet::new());
     for case in 0..800 {
         let mut sample = any_block_file(maker, case);
         let count = sample.blocks.len();
@@ -222,6 +218,8 @@ pub fn first_of_two(group: &mut Group, check: &mut FileChecker, maker: &mut Make
         expect(check.read_alone(group, &sample.bytes())?, number)?;
         check.expect_block(place + 1)?;
         check.expect_figures(found, due)?;
+        numbers.insert(number);
+        blocks.insert(place as u32 + 1);
     }
-    Ok(())
+    each_seen(&numbers, [9, 11, 12]).and(each_seen(&blocks, 1..=7))
 }
