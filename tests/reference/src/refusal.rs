@@ -74,9 +74,9 @@ pub struct FileRefusal {
     pub refusal: Refusal,
     /// In the whole file; 0 where the refusal is told without an offset.
     pub offset: usize,
-    /// The ordinal of the block, from 1; 0 where no block is refused.
+    /// The ordinal of a `.z80` block, from 1; 0 where none is refused.
     pub block: usize,
-    /// What was found and what was due; 0 where neither is told.
+    /// What was found and what was due in a `.z80` file; 0 where neither is told.
     pub found: usize,
     pub due: usize,
 }

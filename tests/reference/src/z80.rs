@@ -1,5 +1,5 @@
-//! Reading and explaining `.z80` files of v1, v2 and v3 and writing v3: the plain form, the calls over byte buffers that the
-//! library exports, and the forms that the benchmark measures against.
+//! Reading and explaining `.z80` files of v1, v2 and v3 and writing v3: the plain form, the calls over byte buffers
+//! that the library exports, and the forms that the benchmark measures against.
 
 pub mod direct;
 mod explain;
