@@ -1,11 +1,12 @@
 -- The page of a block number at each arm of `page_of`, and the pages that must be there: each test is put in.
-use Prim.Native.Nat.{ℕ, zero, suc, _-_, _<_, _≤_}
-use mathlib.Core.Path.{_≡_, refl, sym}
+use Prim.Native.Nat.{ℕ, zero, suc, _+_, _-_, _<_, _≤_}
+use native.Mathlib.Nat.{not-suc-le-zero, le-of-suc-le-suc}
+use mathlib.Core.Path.{_≡_, refl, sym, ap}
 use mathlib.Core.Bool.{Bool, true, false}
 use mathlib.Core.List.{List, [], _∷_}
 use native.Mathlib.Omega.{arith}
 use lib.Dec.{eqb}
-use lib.ListN.{getD}
+use lib.ListN.{length, getD, drop, drop-of-length-le}
 use borrow.Author.Tests.{eqb-false, ne-eqb}
 use Rattle.slices.specs.Choose.{choose, both}
 use Rattle.pages.specs.declared.Model.{Model}
@@ -14,7 +15,7 @@ use Rattle.pages.specs.declared.Slot.{Slot}
 use Rattle.pages.specs.Pages.{slots, pageAmong, owned}
 use Rattle.block_pages.specs.declared.Page.{Page}
 use Rattle.block_pages.specs.declared.Page.the-variants.{At, NoPage}
-use Rattle.block_pages.specs.Numbered.{pageNumbered, pageOf, allThere}
+use Rattle.block_pages.specs.Numbered.{pageNumbered, pageOf, allThere, pagesSeen}
 
 -- a page that has a number is a page of the table
 among : (xs : List Slot) (n p : ℕ) → pageNumbered xs n ≡ At p → pageAmong xs p ≡ true
@@ -96,3 +97,29 @@ all-128 k s a b c d e f r ek p1 p2 p3 p4 p5 p6 p7 =
     go true true true true true true false h = refl
     go true true true true true true true false = refl
     go true true true true true true true true = refl
+
+-- the pages seen, counted to the flag k
+pub record SeenSoFar (seen : List Bool) (n k : ℕ) : Type 0 where
+  pub reach : k ≤ 8
+  pub few : n ≤ k
+  pub rest : n + pagesSeen (drop k seen) ≡ pagesSeen seen
+
+pub seen-none : (seen : List Bool) → SeenSoFar seen 0 0
+seen-none seen = record { reach = omega arith; few = omega arith; rest = omega arith }
+
+seen-one : (seen : List Bool) (k : ℕ) → k < length seen → pagesSeen (drop k seen) ≡ choose (getD seen k false) 1 0 + pagesSeen (drop (suc k) seen)
+seen-one [] k h = absurd (not-suc-le-zero h)
+seen-one (b ∷ l) zero h = refl
+seen-one (b ∷ l) (suc k) h = seen-one l k (le-of-suc-le-suc h)
+
+module _ (seen : List Bool) (n k : ℕ) (g : SeenSoFar seen n k) where
+  pub seen-there : k < 8 → length seen ≡ 8 → getD seen k false ≡ true → SeenSoFar seen (n + 1) (k + 1)
+  seen-there h l e = let q = rw e at (seen-one seen k (omega arith)) in
+      let z : k + 1 ≡ suc k = omega arith in record { reach = omega arith; few = omega (arith, g .few); rest = rw z (omega (arith, g .rest)) }
+
+  pub seen-absent : k < 8 → length seen ≡ 8 → getD seen k false ≡ false → SeenSoFar seen n (k + 1)
+  seen-absent h l e = let q = rw e at (seen-one seen k (omega arith)) in
+      let z : k + 1 ≡ suc k = omega arith in record { reach = omega arith; few = omega (arith, g .few); rest = rw z (omega (arith, g .rest)) }
+
+  pub seen-all : 8 ≤ k → length seen ≡ 8 → (n ≡ pagesSeen seen) × (n ≤ 8)
+  seen-all h l = let q : pagesSeen (drop k seen) ≡ 0 = ap pagesSeen (drop-of-length-le seen {i = k} (omega arith)) in (omega (arith, g .rest), omega (arith, g .few, g .reach))

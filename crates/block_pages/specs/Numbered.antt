@@ -1,8 +1,8 @@
 -- The RAM page of a block number, and whether all are there: both by the one table of `pages`.
-use Prim.Native.Nat.{ℕ}
+use Prim.Native.Nat.{ℕ, _+_}
 use mathlib.Core.Bool.{Bool, true, false}
 use mathlib.Core.List.{List, [], _∷_}
-use lib.ListN.{getD}
+use lib.ListN.{length, getD}
 use lib.Dec.{eqb}
 use Rattle.slices.specs.Choose.{choose, both}
 use Rattle.pages.specs.declared.Model.{Model}
@@ -26,3 +26,12 @@ allSeen (x ∷ more) seen = both (getD seen (x .page) false) (allSeen more seen)
 
 unfoldable pub allThere : Model → List Bool → Bool
 allThere model seen = allSeen (slots model) seen
+
+-- how many of the flags are set: no page comes twice, so as many blocks were good
+abbrev pub pagesSeen : List Bool → ℕ
+pagesSeen [] = 0
+pagesSeen (there ∷ more) = choose there 1 0 + pagesSeen more
+
+-- how many blocks are due
+abbrev pub pagesDue : Model → ℕ
+pagesDue model = length (slots model)

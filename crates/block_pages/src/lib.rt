@@ -1,7 +1,8 @@
 // Block numbers of a file and the RAM pages that they stand for.
 use pages::Model;
+ghost use Prim.Native.Nat.{_≤_};
 ghost use mathlib.Core.Path.{_≡_};
-ghost use Rattle.block_pages.specs.Numbered.{pageOf, allThere};
+ghost use Rattle.block_pages.specs.Numbered.{pageOf, allThere, pagesSeen, pagesDue};
 
 pub enum Page {
     At(usize),
@@ -41,5 +42,32 @@ pub fn all_there(model: Model, seen: [bool; 8]) -> bool
             slices::and(slices::and(seen[0], seen[1]), slices::and(seen[2], seen[3])),
             slices::and(slices::and(seen[4], seen[5]), slices::and(seen[6], seen[7])),
         ),
+    }
+}
+
+// How many pages were seen.
+pub fn pages_seen(seen: [bool; 8]) -> usize
+    ensures { λ r. ⌜ (r ≡ pagesSeen seen) × (r ≤ 8) ⌝ }
+{
+    let mut n: usize = 0;
+    let mut k: usize = 0;
+    while k < 8 {
+        if seen[k] {
+            n += 1;
+            k += 1;
+        } else {
+            k += 1;
+        }
+    }
+    n
+}
+
+// How many pages a machine has.
+pub fn pages_due(model: Model) -> usize
+    ensures { λ r. ⌜ r ≡ pagesDue model ⌝ }
+{
+    match model {
+        Model::K48 => 3,
+        Model::K128 => 8,
     }
 }

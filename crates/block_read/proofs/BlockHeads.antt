@@ -1,7 +1,7 @@
 -- The head at a place of the file, at each return of `head_at`, and what it tells of the block there: `headAt` and `blockOf` with their tests put in.
 -- The returns of `fill_page`.
 use Prim.Native.Nat.{ℕ, _+_, _-_, _*_, _<_, _≤_}
-use mathlib.Core.Path.{_≡_, refl, sym, subst, _∙_}
+use mathlib.Core.Path.{_≡_, refl, sym, ap, subst, _∙_}
 use mathlib.Core.Bool.{Bool, true, false}
 use mathlib.Core.List.{List, _++_, append-nil}
 use native.Mathlib.Omega.{arith}
@@ -11,33 +11,33 @@ use lib.Seq.{getD-drop, drop-drop, take-length}
 use borrow.Author.Tests.{lt-ltb, le-ltb, ltb-true, ltb-false, eq-eqb, ne-eqb}
 use Rattle.slices.specs.Choose.{choose}
 use Rattle.packed.specs.Packed.{unpacked}
-use Rattle.packed.specs.Unpacking.{Unpacks}
+use Rattle.packed.specs.Unpacking.{Unpacks, counted, answerOf}
 use Rattle.packed.specs.declared.Unpacked.{Unpacked}
 use Rattle.packed.specs.declared.Unpacked.the-variants.{Good, WrongLength}
 use Rattle.pages.specs.declared.Model.{Model}
 use Rattle.numbers.specs.declared.Refusal.the-variants.{BlockCut, BlockNumber, BlockTwice}
-use Rattle.numbers.specs.Faults.{faultAt}
+use Rattle.numbers.specs.Faults.{faultIn}
 use Rattle.pages.proofs.PageSteps.{owned-small}
 use Rattle.block_pages.specs.declared.Page.{Page}
 use Rattle.block_pages.specs.declared.Page.the-variants.{At, NoPage}
 use Rattle.slices.specs.Bytes.{wordAt}
 use Rattle.block_read.specs.declared.BlockHead.{BlockHead}
 use Rattle.block_read.specs.declared.BlockHead.the-variants.{Bad, Data}
-use Rattle.block_read.specs.Block.{refused, sizeOf, contents, onPage, pageFrom, blockOf}
+use Rattle.block_read.specs.Block.{refused, sizeOf, contents, ordinal, onPage, pageFrom, blockOf}
 use Rattle.block_pages.specs.Numbered.{pageOf}
 use Rattle.block_pages.proofs.BlockNumbers.{page-owned}
 use Rattle.block_read.specs.Inner.{Fills, headOn, headAt, Refuses}
 
 -- the block at a place is what the file's bytes from start to end give for a page
 pub record BlockAt (model : Model) (seen : List Bool) (file : List ℕ) (at page start end : ℕ) (plain : Bool) : Type 0 where
-  pub block : blockOf model seen at (drop at file) ≡ pageFrom at (contents plain (take (end - start) (drop start file))) page (drop end file)
+  pub block : blockOf model seen at (drop at file) ≡ pageFrom (ordinal seen) at (contents plain (take (end - start) (drop start file))) page (drop end file)
   pub page-small : page < 8
   pub behind : start ≡ at + 3
   pub ordered : start ≤ end
   pub within : end ≤ length file
 
 abbrev pub HeadSays : Model → List Bool → List ℕ → ℕ → BlockHead → Type 0
-HeadSays model seen file at (Bad why) = Refuses model seen file at (faultAt at why)
+HeadSays model seen file at (Bad why) = Refuses model seen file at (faultIn (ordinal seen) at why)
 HeadSays model seen file at (Data page start end plain) = BlockAt model seen file at page start end plain
 
 pub page-small : (k : Model) (n : ℕ) (f : Page) (p : ℕ) → f ≡ pageOf k n → f ≡ At p → p < 8
@@ -75,8 +75,8 @@ module _ (model : Model) (seen : List Bool) (file : List ℕ) (at : ℕ) where
 
   -- the block, with the file's own bytes in its tests
   block-tests : blockOf model seen at (drop at file)
-      ≡ choose (ltb (length file - at) 3) (refused (faultAt at BlockCut))
-      (choose (ltb (length file - at) (3 + sizeOf (wordAt file at))) (refused (faultAt at BlockCut))
+      ≡ choose (ltb (length file - at) 3) (refused (faultIn (ordinal seen) at BlockCut))
+      (choose (ltb (length file - at) (3 + sizeOf (wordAt file at))) (refused (faultIn (ordinal seen) at BlockCut))
       (onPage at (pageOf model (getD file (at + 2) 0)) seen
       (contents (eqb (wordAt file at) 65535) (take (sizeOf (wordAt file at)) (drop (at + 3) file)))
       (drop (at + (3 + sizeOf (wordAt file at))) file)))
@@ -131,9 +131,20 @@ fills-plain plain src before after e l q =
       memory = rw (e, eq-eqb _ _ l) (q ∙ rw (take-length src, drop-of-length-le before {i = length src} (omega arith), append-nil));
     }
 
-pub fills-other : (plain : Bool) (src before after : List ℕ) → plain ≡ true → (length src ≡ length before → ⊥)
-    → after ≡ replicate (length before) 0 → Fills plain src before after WrongLength
-fills-other plain src before after e l q = record { answer = rw (e, ne-eqb _ _ l); memory = rw (e, ne-eqb _ _ l) q }
+pub fills-other : (plain : Bool) (src before after : List ℕ) (n : ℕ) → plain ≡ true → (length src ≡ length before → ⊥) → n ≡ counted (length src)
+    → after ≡ replicate (length before) 0 → Fills plain src before after (WrongLength n)
+fills-other plain src before after n e l c q = record { answer = rw (e, ne-eqb _ _ l) (ap WrongLength c); memory = rw (e, ne-eqb _ _ l) q }
 
 pub fills-packed : (plain : Bool) (src before after : List ℕ) (r : Unpacked) → plain ≡ false → Unpacks (unpacked src) (length before) r after → Fills plain src before after r
 fills-packed plain src before after r e u = record { answer = rw e (u .answer); memory = rw e (u .memory) }
+
+-- the same answers without a page
+module _ (plain : Bool) (src : List ℕ) (due : ℕ) where
+  pub would-plain : plain ≡ true → length src ≡ due → Good ≡ answerOf (contents plain src) due
+  would-plain e l = rw (e, eq-eqb _ _ l)
+
+  pub would-other : (n : ℕ) → plain ≡ true → (length src ≡ due → ⊥) → n ≡ counted (length src) → WrongLength n ≡ answerOf (contents plain src) due
+  would-other n e l c = rw (e, ne-eqb _ _ l) (ap WrongLength c)
+
+  pub would-packed : (r : Unpacked) → plain ≡ false → r ≡ answerOf (unpacked src) due → r ≡ answerOf (contents plain src) due
+  would-packed r e q = rw e q

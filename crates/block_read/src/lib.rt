@@ -6,7 +6,8 @@ use pages::Model;
 ghost use Prim.Native.Nat.{_<_};
 ghost use mathlib.Core.Path.{_≡_};
 ghost use lib.ListN.{length};
-ghost use Rattle.block_read.specs.Block.{sizeOf};
+ghost use Rattle.packed.specs.Unpacking.{answerOf};
+ghost use Rattle.block_read.specs.Block.{sizeOf, contents};
 ghost use Rattle.block_read.specs.Inner.{Fills, headAt};
 
 // A block's head: a refusal, or where its data lie and which page they are for.
@@ -71,7 +72,21 @@ pub fn fill_page(src: &[u8], plain: bool, page: &mut [u8]) -> Unpacked
             return Unpacked::Good;
         }
         slices::fill(page, 0);
-        return Unpacked::WrongLength;
+        return Unpacked::WrongLength(unpack_tail::up_to(src.len()));
     }
     unpacking::unpack(src, page)
+}
+
+// The answer of `fill_page` for a page of `due` bytes, without one.
+pub fn would_fill(src: &[u8], plain: bool, due: usize) -> Unpacked
+    requires { ⌜ due < 65536 ⌝ }
+    ensures { λ r. ⌜ r ≡ answerOf (contents plain (now (src .entry))) due ⌝ }
+{
+    if plain {
+        if src.len() == due {
+            return Unpacked::Good;
+        }
+        return Unpacked::WrongLength(unpack_tail::up_to(src.len()));
+    }
+    counting::would_unpack(src, due)
 }

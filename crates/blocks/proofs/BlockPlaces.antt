@@ -15,7 +15,7 @@ use Rattle.numbers.proofs.FaultPlaces.{FaultIn, somewhere, nowhere}
 use Rattle.block_pages.specs.declared.Page.{Page}
 use Rattle.block_pages.specs.declared.Page.the-variants.{At, NoPage}
 use Rattle.block_pages.specs.Numbered.{pageOf, allThere}
-use Rattle.block_read.specs.Block.{Block, refused, brought, sizeOf, contents, pageFrom, onPage, blockOf}
+use Rattle.block_read.specs.Block.{Block, refused, brought, sizeOf, contents, ordinal, pageFrom, onPage, blockOf}
 use Rattle.blocks.specs.Blocks.{BodyResult, bodyRefused, bodyRead, afterBlock, finished, blocks, noneSeen, blocksInto}
 use Rattle.blocks.proofs.BlockSteps.{found-inside}
 use Rattle.blocks.proofs.BlocksSoFar.{blocksOnward}
@@ -34,10 +34,11 @@ module _ (place : ℕ) (s : List ℕ) (h : 0 < place) where
   size : ℕ
   size = place + length s
 
-  data-placed : (d : Found) (page : ℕ) (rest : List ℕ) → ((i : ℕ) → d ≡ malformed i → 3 + i ≤ length s) → length rest ≤ length s → BlockPlaced size s (pageFrom place d page rest)
+  data-placed : (block : ℕ) (d : Found) (page : ℕ) (rest : List ℕ) → ((i : ℕ) → d ≡ malformed i → 3 + i ≤ length s) → length rest ≤ length s
+      → BlockPlaced size s (pageFrom block place d page rest)
   unfolding size
-  data-placed (malformed i) page rest f l = somewhere 11 (place + 3 + i) (place + length s) refl (λ e. omega arith) (omega arith) (omega (arith, f i refl))
-  data-placed (bytes xs) page rest f l =
+  data-placed block (malformed i) page rest f l = somewhere 11 (place + 3 + i) (place + length s) refl (λ e. omega arith) (omega arith) (omega (arith, f i refl))
+  data-placed block (bytes xs) page rest f l =
       either (BlockPlaced size s) (eqb (length xs) 16384) _ _ (λ t. l) (λ t. somewhere 12 place (place + length s) refl (λ e. omega arith) h (omega arith))
 
   page-placed : (p : Page) (seen : List Bool) (d : Found) (rest : List ℕ) → ((i : ℕ) → d ≡ malformed i → 3 + i ≤ length s) → length rest ≤ length s
@@ -45,7 +46,7 @@ module _ (place : ℕ) (s : List ℕ) (h : 0 < place) where
   unfolding size
   page-placed NoPage seen d rest f l = somewhere 9 place (place + length s) refl (λ e. omega arith) h (omega arith)
   page-placed (At page) seen d rest f l =
-      either (BlockPlaced size s) (getD seen page _) _ _ (λ t. somewhere 10 place (place + length s) refl (λ e. omega arith) h (omega arith)) (λ t. data-placed d page rest f l)
+      either (BlockPlaced size s) (getD seen page _) _ _ (λ t. somewhere 10 place (place + length s) refl (λ e. omega arith) h (omega arith)) (λ t. data-placed (ordinal seen) d page rest f l)
 
   block-placed : (model : Model) (seen : List Bool) → BlockPlaced size s (blockOf model seen place s)
   unfolding size blockOf

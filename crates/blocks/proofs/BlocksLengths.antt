@@ -14,13 +14,14 @@ use Rattle.slices.specs.Bytes.{wordAt}
 use Rattle.slices.specs.Put.{put}
 use Rattle.slices.proofs.Chosen.{either}
 use Rattle.packed.specs.Packed.{Found, malformed, bytes}
+use Rattle.packed.specs.Unpacking.{counted}
 use Rattle.pages.specs.declared.Model.{Model}
 use Rattle.numbers.specs.declared.FileFault.{FileFault}
-use Rattle.numbers.specs.Faults.{faultAt}
-use Rattle.numbers.specs.declared.Refusal.the-variants.{BlockCut, BlockTwice, UnpackedLength}
+use Rattle.numbers.specs.Faults.{faultIn, otherLength}
+use Rattle.numbers.specs.declared.Refusal.the-variants.{BlockCut, BlockTwice}
 use Rattle.block_pages.specs.declared.Page.{Page}
 use Rattle.block_pages.specs.declared.Page.the-variants.{At, NoPage}
-use Rattle.block_read.specs.Block.{Block, refused, brought, sizeOf, pageFrom, onPage, blockOf}
+use Rattle.block_read.specs.Block.{Block, refused, brought, sizeOf, ordinal, pageFrom, onPage, blockOf}
 use Rattle.blocks.specs.Blocks.{BodyResult, bodyRead, afterBlock, blocks, noneSeen, blocksInto}
 use Rattle.block_pages.specs.Numbered.{pageOf}
 use Rattle.block_read.proofs.BlockHeads.{page-small}
@@ -44,22 +45,22 @@ module _ (P : Type 0) (seen : List Bool) (place : ℕ) (r a : List ℕ) (f : ℕ
   past-check true fault x g e = let z : _≡_ {A = ℕ} 0 1 = cc in absurd (omega arith)
   past-check false fault x g e = g refl e
 
-  past-data : (d : Found) (page : ℕ) → page < 8 → getD seen page false ≡ false → afterBlock (pageFrom place d page r) f ≡ bodyRead a → P
+  past-data : (d : Found) (page : ℕ) → page < 8 → getD seen page false ≡ false → afterBlock (pageFrom (ordinal seen) place d page r) f ≡ bodyRead a → P
   past-data (malformed i) page h c e = let z : _≡_ {A = ℕ} 0 1 = cc in absurd (omega arith)
   past-data (bytes xs) page h c e = go (eqb (length xs) 16384) e
     where
-      go : (b : Bool) → afterBlock (choose b (brought page xs r) (refused (faultAt place UnpackedLength))) f ≡ bodyRead a → P
+      go : (b : Bool) → afterBlock (choose b (brought page xs r) (refused (otherLength (ordinal seen) place (counted (length xs)) 16384))) f ≡ bodyRead a → P
       go true q = k page xs h c q
       go false q = let z : _≡_ {A = ℕ} 0 1 = cc in absurd (omega arith)
 
   past-number : (model : Model) (n : ℕ) (p : Page) (d : Found) → p ≡ pageOf model n → afterBlock (onPage place p seen d r) f ≡ bodyRead a → P
   past-number model n NoPage d q e = let z : _≡_ {A = ℕ} 0 1 = cc in absurd (omega arith)
-  past-number model n (At p) d q e = past-check (getD seen p false) (faultAt place BlockTwice) (pageFrom place d p r) (past-data d p (page-small model n (At p) p q refl)) e
+  past-number model n (At p) d q e = past-check (getD seen p false) (faultIn (ordinal seen) place BlockTwice) (pageFrom (ordinal seen) place d p r) (past-data d p (page-small model n (At p) p q refl)) e
 
   past-block : (model : Model) (s : List ℕ) → r ≡ drop (3 + sizeOf (wordAt s 0)) s → afterBlock (blockOf model seen place s) f ≡ bodyRead a → P
   unfolding blockOf
   past-block model s q e =
-      past-check (ltb (length s) 3) (faultAt place BlockCut) _ (λ t. past-check (ltb (length s) (3 + sizeOf (wordAt s 0))) (faultAt place BlockCut) _ (λ t. past-number model (getD s 2 0) (pageOf model (getD s 2 0)) _ refl))
+      past-check (ltb (length s) 3) (faultIn (ordinal seen) place BlockCut) _ (λ t. past-check (ltb (length s) (3 + sizeOf (wordAt s 0))) (faultIn (ordinal seen) place BlockCut) _ (λ t. past-number model (getD s 2 0) (pageOf model (getD s 2 0)) _ refl))
       (rw (← q) at e)
 
 size-most : (s : List ℕ) → ((i : ℕ) → getD s i 0 < 256) → sizeOf (wordAt s 0) ≤ 65534

@@ -9,10 +9,9 @@ use Rattle.slices.specs.Choose.{choose}
 use Rattle.slices.specs.Put.{put}
 use Rattle.slices.specs.Blank.{blank}
 use Rattle.pages.specs.declared.Model.{Model}
-use Rattle.numbers.specs.declared.Refusal.the-variants.{BlockMissing}
 use Rattle.numbers.specs.declared.FileFault.{FileFault}
-use Rattle.numbers.specs.Faults.{unplaced}
-use Rattle.block_pages.specs.Numbered.{allThere}
+use Rattle.numbers.specs.Faults.{missing}
+use Rattle.block_pages.specs.Numbered.{allThere, pagesSeen, pagesDue}
 use Rattle.block_read.specs.Block.{Block, refused, brought, blockOf}
 use Rattle.blocks.specs.declared.BodyAnswer.{BodyAnswer}
 use Rattle.blocks.specs.declared.BodyAnswer.the-variants.{Whole, Faulty}
@@ -22,10 +21,15 @@ pub data BodyResult : Type 0 where
   bodyRefused : FileFault → BodyResult
   bodyRead : List ℕ → BodyResult
 
--- what reading a body answers and leaves in the area. "A refused read gives .. an area all zero"
-abbrev pub ReadsBody : BodyResult → BodyAnswer → List ℕ → Type 0
-ReadsBody (bodyRefused fault) r after = (r ≡ Faulty fault) × (after ≡ blank 131072)
-ReadsBody (bodyRead area) r after = (r ≡ Whole) × (after ≡ area)
+-- what a body is read into: 131,072 zeros; or nothing, where the answer alone is asked
+pub record Lent (area : List ℕ) : Type 0 where
+  pub zeros : length area ≡ 131072 → area ≡ blank 131072
+  pub none : (length area ≡ 131072 → ⊥) → length area ≡ 0
+
+-- what reading a body into n bytes answers, and leaves in an area of 131,072. "A refused read gives .. an area all zero"
+abbrev pub ReadsBody : BodyResult → ℕ → BodyAnswer → List ℕ → Type 0
+ReadsBody (bodyRefused fault) n r after = (r ≡ Faulty fault) × (n ≡ 131072 → after ≡ blank 131072)
+ReadsBody (bodyRead area) n r after = (r ≡ Whole) × (n ≡ 131072 → after ≡ area)
 
 abbrev pub afterBlock : Block → (ℕ → List ℕ → List ℕ → BodyResult) → BodyResult
 afterBlock (refused fault) f = bodyRefused fault
@@ -33,7 +37,7 @@ afterBlock (brought page xs rest) f = f page xs rest
 
 -- "last 13"
 abbrev pub finished : Model → List Bool → List ℕ → BodyResult
-finished model seen area = choose (allThere model seen) (bodyRead area) (bodyRefused (unplaced BlockMissing))
+finished model seen area = choose (allThere model seen) (bodyRead area) (bodyRefused (missing (pagesSeen seen) (pagesDue model)))
 
 -- block after block from a place of the file, where s stands, to the end; a block has three bytes or more, so as many turns as bytes are
 -- enough

@@ -1,26 +1,32 @@
 -- The v1 body: what stands from a place of the file on is its own part, and the three pages of it are put one by one.
 use Prim.Native.Nat.{ℕ, _+_, _-_, _<_, _≤_}
-use mathlib.Core.Path.{_≡_, refl, sym, ap, _∙_}
+use mathlib.Core.Path.{_≡_, refl, sym, ap, subst, _∙_}
 use mathlib.Core.Bool.{Bool, true, false}
 use mathlib.Core.List.{List, [], _∷_}
 use native.Mathlib.Omega.{arith}
+use lib.Dec.{eqb}
 use lib.ListN.{length, take, drop, length-drop}
 use lib.Seq.{take-all}
 use borrow.Author.Tests.{eq-eqb, ne-eqb}
+use Rattle.slices.specs.Choose.{choose}
 use Rattle.slices.specs.Put.{put}
 use Rattle.slices.specs.Blank.{blank}
 use Rattle.slices.proofs.Chosen.{same-is, same-true}
-use Rattle.packed.specs.Packed.{Found, unpacked}
-use Rattle.packed.specs.Unpacking.{Unpacks}
+use Rattle.packed.specs.Packed.{Found, malformed, bytes, unpacked}
+use Rattle.packed.specs.Packed.Promise.{bad-inside}
+use Rattle.packed.specs.Unpacking.{counted, answerOf}
 use Rattle.packed.specs.declared.Unpacked.{Unpacked}
 use Rattle.packed.specs.declared.Unpacked.the-variants.{Good, WrongLength, Malformed}
-use Rattle.numbers.specs.declared.Refusal.the-variants.{MalformedData, UnpackedLength, EndMarker}
-use Rattle.numbers.specs.Faults.{faultAt}
+use Rattle.numbers.specs.declared.Refusal.{Refusal}
+use Rattle.numbers.specs.declared.FileFault.{FileFault}
+use Rattle.numbers.specs.declared.Refusal.the-variants.{MalformedData, EndMarker}
+use Rattle.numbers.specs.Faults.{faultIn, otherLength}
 use Rattle.body_v1.specs.Body.{marked, spread, spreadFrom, bodyInto}
-use Rattle.blocks.specs.Blocks.{ReadsBody}
+use Rattle.blocks.specs.Blocks.{bodyRefused, bodyRead, Lent, ReadsBody}
+use Rattle.body_v1.specs.Inner.{pagesFrom, FillsPages}
 use Rattle.blocks.specs.declared.BodyAnswer.{BodyAnswer}
 use Rattle.blocks.specs.declared.BodyAnswer.the-variants.{Whole, Faulty}
-use Rattle.block_read.proofs.Answers.{good-is, malformed-is, wrong-is}
+use Rattle.block_read.proofs.Answers.{malformed-is}
 
 -- what stands from n on, as a part
 abbrev bodyFrom : List ℕ → ℕ → List ℕ
@@ -54,39 +60,75 @@ moved-page area body after base k e =
     e ∙ rw d
 
 pub spreads : (area body a b c : List ℕ) → a ≡ put area 81920 (take 16384 (drop 0 body)) → b ≡ put a 32768 (take 16384 (drop 16384 body))
-    → c ≡ put b 0 (take 16384 (drop 32768 body)) → c ≡ spread area body
+    → c ≡ put b 0 (take 16384 (drop 32768 body)) → length area ≡ 131072 → c ≡ spread area body
 unfolding spread
-spreads area body a b c p q r = rw (r, q, p)
+spreads area body a b c p q r l = rw (r, q, p)
 
-module _ (from : ℕ) (u : Found) (n : ℕ) (r : Unpacked) (body before after : List ℕ) (h : Unpacks u n r body) (l : n ≡ 49152) where
-  pub body-good : r ≡ Good → after ≡ spread before body → ReadsBody (spreadFrom from u before) Whole after
-  body-good e q = let w = good-is u n 49152 r body h l e in rw (w .0, eq-eqb _ _ (w .1)) (refl, q)
+pub spreads-none : (area body : List ℕ) → (length area ≡ 131072 → ⊥) → length area ≡ 131072 → area ≡ spread area body
+spreads-none area body h l = absurd (h l)
 
-  pub body-malformed : (i : ℕ) (a : BodyAnswer) → r ≡ Malformed i → a ≡ Faulty (faultAt (from + i) MalformedData) → after ≡ blank 131072 → ReadsBody (spreadFrom from u before) a after
-  body-malformed i a e f q = rw (malformed-is u n 49152 r body h l i e) (f, q)
+-- what each answer of unpacking says of the body
+abbrev answered : ℕ → Unpacked → BodyAnswer
+answered place Good = Whole
+answered place (Malformed i) = Faulty (faultIn 1 (place + i) MalformedData)
+answered place (WrongLength n) = Faulty (otherLength 1 place n 49152)
 
-  pub body-wrong : (a : BodyAnswer) → r ≡ WrongLength → a ≡ Faulty (faultAt from UnpackedLength) → after ≡ blank 131072 → ReadsBody (spreadFrom from u before) a after
-  body-wrong a e f q = let w = wrong-is u n 49152 r body h l e in rw (w .1 .0, w .1 .1) (f, q)
+module _ (place : ℕ) (u : Found) (n : ℕ) (r : Unpacked) (after : List ℕ) (f : FillsPages u n r after) where
+  body-answered : ReadsBody (spreadFrom place u (blank 131072)) n (answered place r) after
+  body-answered = subst (λ (x : Unpacked). ReadsBody (spreadFrom place u (blank 131072)) n (answered place x) after) (sym (f .answer)) (go u (f .memory))
+    where
+      go : (u : Found) → (n ≡ 131072 → after ≡ pagesFrom u) → ReadsBody (spreadFrom place u (blank 131072)) n (answered place (answerOf u 49152)) after
+      go (malformed i) m = (refl, m)
+      go (bytes xs) m = two (eqb (length xs) 49152) m
+        where
+          two : (t : Bool) → (n ≡ 131072 → after ≡ choose t (spread (blank 131072) xs) (blank 131072))
+              → ReadsBody (choose t (bodyRead (spread (blank 131072) xs)) (bodyRefused (otherLength 1 place (counted (length xs)) 49152))) n (answered place (choose t Good (WrongLength (counted (length xs))))) after
+          two true m = (refl, m)
+          two false m = (refl, m)
 
-module _ (packed : Bool) (file : List ℕ) (from : ℕ) (area after : List ℕ) where
+  pub body-whole : r ≡ Good → ReadsBody (spreadFrom place u (blank 131072)) n Whole after
+  body-whole e = rw e at body-answered
+
+  pub body-malformed : (i : ℕ) (a : BodyAnswer) → r ≡ Malformed i → a ≡ Faulty (faultIn 1 (place + i) MalformedData) → ReadsBody (spreadFrom place u (blank 131072)) n a after
+  body-malformed i a e q = rw q (rw e at body-answered)
+
+  pub body-wrong : (m : ℕ) (a : BodyAnswer) → r ≡ WrongLength m → a ≡ Faulty (otherLength 1 place m 49152) → ReadsBody (spreadFrom place u (blank 131072)) n a after
+  body-wrong m a e q = rw q (rw e at body-answered)
+
+-- a bad code is among the data
+pub bad-code-before : (src : List ℕ) (n : ℕ) (r : Unpacked) (after : List ℕ) → FillsPages (unpacked src) n r after → (i : ℕ) → r ≡ Malformed i → i < length src
+bad-code-before src n r after f i e = bad-inside src i (malformed-is (unpacked src) 49152 49152 r _ (record { answer = f .answer; memory = refl }) refl i e)
+
+module _ (packed : Bool) (file : List ℕ) (from : ℕ) (area after : List ℕ) (lent : Lent area) where
   pub read-marked : (m : Bool) (r : BodyAnswer) → packed ≡ true → m ≡ marked (bodyFrom file from) → m ≡ true
-      → ReadsBody (spreadFrom from (unpacked (take (length (bodyFrom file from) - 4 - 0) (drop 0 (bodyFrom file from)))) area) r after → ReadsBody (bodyInto packed area from (drop from file)) r after
+      → ReadsBody (spreadFrom from (unpacked (take (length (bodyFrom file from) - 4 - 0) (drop 0 (bodyFrom file from)))) (blank 131072)) (length area) r after
+      → ReadsBody (bodyInto packed (blank 131072) from (drop from file)) (length area) r after
   unfolding bodyInto
   read-marked m r e a t h =
       let z : length (bodyFrom file from) - 4 - 0 ≡ length (bodyFrom file from) - 4 = omega arith in
       rw (e, ← to-end file from, ← a, t) (rw z at h)
 
-  pub read-unmarked : (m : Bool) (r : BodyAnswer) → packed ≡ true → m ≡ marked (bodyFrom file from) → m ≡ false → from ≤ length file → r ≡ Faulty (faultAt (length file) EndMarker)
-      → after ≡ blank 131072 → ReadsBody (bodyInto packed area from (drop from file)) r after
+  pub read-unmarked : (m : Bool) (r : BodyAnswer) → packed ≡ true → m ≡ marked (bodyFrom file from) → m ≡ false → from ≤ length file → r ≡ Faulty (faultIn 1 (length file) EndMarker)
+      → ReadsBody (bodyInto packed (blank 131072) from (drop from file)) (length area) r area
   unfolding bodyInto
-  read-unmarked m r e a t l f q =
+  read-unmarked m r e a t l f =
       let z : length file ≡ from + length (bodyFrom file from) = omega (arith, ap length (to-end file from), length-drop from file) in
-      rw (e, ← to-end file from, ← a, t) (f ∙ ap (λ (n : ℕ). Faulty (faultAt n EndMarker)) z, q)
+      rw (e, ← to-end file from, ← a, t) (f ∙ ap (λ (n : ℕ). Faulty (faultIn 1 n EndMarker)) z, lent .zeros)
 
-  pub read-plain : packed ≡ false → length (bodyFrom file from) ≡ 49152 → after ≡ spread area (bodyFrom file from) → ReadsBody (bodyInto packed area from (drop from file)) Whole after
+  pub read-plain : packed ≡ false → length (bodyFrom file from) ≡ 49152 → (length area ≡ 131072 → after ≡ spread area (bodyFrom file from))
+      → ReadsBody (bodyInto packed (blank 131072) from (drop from file)) (length area) Whole after
   unfolding bodyInto
-  read-plain e l q = rw (e, ← to-end file from, eq-eqb _ _ l) (refl, q)
+  read-plain e l q = rw (e, ← to-end file from, eq-eqb _ _ l) (refl, λ n. q n ∙ ap (λ (a : List ℕ). spread a (bodyFrom file from)) (lent .zeros n))
 
-  pub read-wrong : (r : BodyAnswer) → packed ≡ false → (length (bodyFrom file from) ≡ 49152 → ⊥) → r ≡ Faulty (faultAt from UnpackedLength) → after ≡ blank 131072 → ReadsBody (bodyInto packed area from (drop from file)) r after
+  pub read-wrong : (m : ℕ) (r : BodyAnswer) → packed ≡ false → (length (bodyFrom file from) ≡ 49152 → ⊥) → m ≡ counted (length (bodyFrom file from)) → r ≡ Faulty (otherLength 1 from m 49152)
+      → ReadsBody (bodyInto packed (blank 131072) from (drop from file)) (length area) r area
   unfolding bodyInto
-  read-wrong r e l f q = rw (e, ← to-end file from, ne-eqb _ _ l) (f, q)
+  read-wrong m r e l c f =
+      rw (e, ← to-end file from, ne-eqb _ _ l) (f ∙ ap (λ (n : ℕ). Faulty (otherLength 1 from n 49152)) c, lent .zeros)
+
+-- the faults of a body
+pub fault-of-body : (why : Refusal) (place : ℕ) (fault : FileFault) → fault ≡ faultIn 1 place why → Faulty fault ≡ Faulty (faultIn 1 place why)
+fault-of-body why place fault e = ap Faulty e
+
+pub length-of-body : (place found : ℕ) (fault : FileFault) → fault ≡ otherLength 1 place found 49152 → Faulty fault ≡ Faulty (otherLength 1 place found 49152)
+length-of-body place found fault e = ap Faulty e

@@ -3,7 +3,11 @@ use Prim.Native.Nat.{ℕ, _+_, _-_, _≤_, _<_}
 use native.Mathlib.Numerals.{add-one}
 use native.Mathlib.Omega.{arith}
 use mathlib.Core.Path.{_≡_, refl, sym, ap, _∙_}
+use mathlib.Core.Bool.{Bool, true, false}
 use mathlib.Core.List.{List, _++_, append-assoc, append-nil}
+use lib.Dec.{eqb}
+use borrow.Author.Tests.{eq-eqb}
+use Rattle.slices.specs.Choose.{choose}
 use lib.ListN.{length, getD, take, drop, set, replicate, length-append, length-drop, length-set, length-replicate, replicate-append-replicate, take-append-drop}
 use lib.Seq.{
   paste,
@@ -25,20 +29,14 @@ use borrow.Rule.Slice.PartMut.{putMid, midOf, post-is, mid-len, put-same}
 use Rattle.slices.specs.Blank.{blank}
 use Rattle.slices.specs.Put.{put}
 use Rattle.slices.proofs.Puts.{length-put}
-use Rattle.packed.specs.Packed.{Found, unpacked}
-use Rattle.packed.specs.Packed.Promise.{bad-inside}
-use Rattle.packed.specs.Unpacking.{Unpacks}
+use Rattle.packed.specs.Packed.{Found, malformed, bytes}
+use Rattle.packed.specs.Unpacking.{Unpacks, counted, answerOf}
 use Rattle.packed.specs.declared.Unpacked.{Unpacked}
 use Rattle.packed.specs.declared.Unpacked.the-variants.{Good, WrongLength, Malformed}
-use Rattle.numbers.specs.declared.Refusal.the-variants.{MalformedData, UnpackedLength}
-use Rattle.numbers.specs.Faults.{faultAt}
-use Rattle.body_v1.specs.Body.{spread, spreadFrom}
-use Rattle.body_v1.specs.Inner.{pageMoved, topCleared, settled}
-use Rattle.blocks.specs.Blocks.{ReadsBody}
-use Rattle.blocks.specs.declared.BodyAnswer.{BodyAnswer}
-use Rattle.blocks.specs.declared.BodyAnswer.the-variants.{Whole, Faulty}
-use Rattle.block_read.proofs.Answers.{good-is, malformed-is, refused-zeros}
-use Rattle.body_v1.proofs.Bodies.{body-good, body-malformed, body-wrong}
+use Rattle.body_v1.specs.Body.{spread}
+use Rattle.body_v1.specs.Inner.{pageMoved, topCleared, settled, pagesFrom, FillsPages}
+use Rattle.blocks.specs.Blocks.{Lent}
+use Rattle.block_read.proofs.Answers.{good-is, refused-zeros}
 
 -- k bytes of the page at `from` stand at `to` too
 pub record Shifted (d : List ℕ) (from to : ℕ) (a : List ℕ) (k : ℕ) : Type 0 where
@@ -206,13 +204,23 @@ module _ (b xs : List ℕ) (lb : length b ≡ 131072) (eb : b ≡ blank 131072) 
       ∙ sym spread-is
 
 -- the answers of unpacking into pages 5, 6 and 7
-module _ (from : ℕ) (u : Found) (area : List ℕ) (r : Unpacked) (body : List ℕ) (h : Unpacks u (length (midOf 81920 (length area - 81920) area)) r body) (l : length area ≡ 131072)
-    (b : area ≡ blank 131072) where
+module _ (u : Found) (area : List ℕ) (r : Unpacked) (body : List ℕ) (h : Unpacks u (length (midOf 81920 (length area - 81920) area)) r body) (l : length area ≡ 131072) (lent : Lent area) where
+  b : area ≡ blank 131072
+  b = lent .zeros l
+
   body-room : length (midOf 81920 (length area - 81920) area) ≡ 49152
   body-room = mid-len 81920 (length area) area (omega arith) ∙ omega arith
 
-  pub body-accepted : (after : List ℕ) → r ≡ Good → after ≡ settled (putMid 81920 (length area - 81920) area body) → ReadsBody (spreadFrom from u area) Whole after
-  body-accepted after e q = body-good from u _ r body area after h body-room e (settled-is area body l b (good-is u _ 49152 r body h body-room e .1) after q)
+  answer-is : r ≡ answerOf u 49152
+  answer-is = h .answer ∙ ap (answerOf u) body-room
+
+  pub pages-good : (after : List ℕ) → r ≡ Good → after ≡ settled (putMid 81920 (length area - 81920) area body) → FillsPages u (length area) Good after
+  pages-good after e q =
+      let w = good-is u _ 49152 r body h body-room e in
+      record {
+        answer = sym e ∙ answer-is;
+        memory = λ _. rw (w .0, eq-eqb (length body) 49152 (w .1)) (settled-is area body l b (w .1) after q ∙ ap (λ (a : List ℕ). spread a body) b);
+      }
 
   -- zeros written over zeros
   still-zero : (r ≡ Good → ⊥) → putMid 81920 (length area - 81920) area body ≡ blank 131072
@@ -223,12 +231,22 @@ module _ (from : ℕ) (u : Found) (area : List ℕ) (r : Unpacked) (body : List 
       ∙ sym (take-all (length area - 81920) (drop 81920 area) (omega (arith, length-drop 81920 area))) in
       ap (putMid 81920 (length area - 81920) area) part ∙ put-same 81920 (length area - 81920) area ∙ b
 
-  pub malformed-body : (i : ℕ) (a : BodyAnswer) → r ≡ Malformed i → a ≡ Faulty (faultAt (from + i) MalformedData) → ReadsBody (spreadFrom from u area) a (putMid 81920 (length area - 81920) area body)
-  malformed-body i a e f = body-malformed from u _ r body area _ h body-room i a e f (still-zero (λ g. let z : _≡_ {A = ℕ} 0 1 = cc in omega arith))
+  pages-refused : (r ≡ Good → ⊥) → FillsPages u (length area) r (putMid 81920 (length area - 81920) area body)
+  pages-refused e = record { answer = answer-is; memory = λ _. still-zero e ∙ sym (go u (λ q. e (answer-is ∙ q))) }
+    where
+      go : (u : Found) → (answerOf u 49152 ≡ Good → ⊥) → pagesFrom u ≡ blank 131072
+      go (malformed i) f = refl
+      go (bytes xs) f = two (eqb (length xs) 49152) f
+        where
+          two : (t : Bool) → (choose t Good (WrongLength (counted (length xs))) ≡ Good → ⊥) → choose t (spread (blank 131072) xs) (blank 131072) ≡ blank 131072
+          two true f = absurd (f refl)
+          two false f = refl
 
-  pub wrong-body : (a : BodyAnswer) → r ≡ WrongLength → a ≡ Faulty (faultAt from UnpackedLength) → ReadsBody (spreadFrom from u area) a (putMid 81920 (length area - 81920) area body)
-  wrong-body a e f = body-wrong from u _ r body area _ h body-room a e f (still-zero (λ g. let z : _≡_ {A = ℕ} 0 1 = cc in omega arith))
+  pub pages-malformed : (i : ℕ) → r ≡ Malformed i → FillsPages u (length area) (Malformed i) (putMid 81920 (length area - 81920) area body)
+  pages-malformed i e = rw e at (pages-refused (λ g. let z : _≡_ {A = ℕ} 0 1 = cc in omega arith))
 
--- a bad code is among the data
-pub bad-code-before : (src : List ℕ) (n : ℕ) (r : Unpacked) (body : List ℕ) → Unpacks (unpacked src) n r body → (i : ℕ) → r ≡ Malformed i → i < length src
-bad-code-before src n r body h i e = bad-inside src i (malformed-is (unpacked src) n n r body h refl i e)
+  pub pages-wrong : (n : ℕ) → r ≡ WrongLength n → FillsPages u (length area) (WrongLength n) (putMid 81920 (length area - 81920) area body)
+  pages-wrong n e = rw e at (pages-refused (λ g. let z : _≡_ {A = ℕ} 0 1 = cc in omega arith))
+
+pub pages-none : (u : Found) (area : List ℕ) (r : Unpacked) → (length area ≡ 131072 → ⊥) → r ≡ answerOf u 49152 → FillsPages u (length area) r area
+pages-none u area r h e = record { answer = e; memory = λ l. absurd (h l) }

@@ -9,18 +9,20 @@ use Rattle.slices.specs.Choose.{choose}
 use Rattle.slices.specs.Same.{same}
 use Rattle.slices.specs.Put.{put}
 use Rattle.packed.specs.Packed.{Found, malformed, bytes, unpacked}
-use Rattle.numbers.specs.declared.Refusal.the-variants.{MalformedData, UnpackedLength, EndMarker}
-use Rattle.numbers.specs.Faults.{faultAt}
+use Rattle.packed.specs.Unpacking.{counted}
+use Rattle.numbers.specs.declared.Refusal.the-variants.{MalformedData, EndMarker}
+use Rattle.numbers.specs.Faults.{faultIn, otherLength}
 use Rattle.blocks.specs.Blocks.{BodyResult, bodyRefused, bodyRead}
 
 -- 4000-7FFF is page 5, 8000-BFFF page 2, C000-FFFF page 0
 unfoldable pub spread : List ℕ → List ℕ → List ℕ
 spread area xs = put (put (put area 81920 (take 16384 xs)) 32768 (take 16384 (drop 16384 xs))) 0 (take 16384 (drop 32768 xs))
 
--- of a body that stands at a place of the file: 11 at the bad code, then 12 where the body starts
+-- of a body that stands at a place of the file, "a v1 body is 1": 11 at the bad code, then 12 where the body starts
 abbrev pub spreadFrom : ℕ → Found → List ℕ → BodyResult
-spreadFrom place (malformed i) area = bodyRefused (faultAt (place + i) MalformedData)
-spreadFrom place (bytes xs) area = choose (eqb (length xs) 49152) (bodyRead (spread area xs)) (bodyRefused (faultAt place UnpackedLength))
+spreadFrom place (malformed i) area = bodyRefused (faultIn 1 (place + i) MalformedData)
+spreadFrom place (bytes xs) area =
+    choose (eqb (length xs) 49152) (bodyRead (spread area xs)) (bodyRefused (otherLength 1 place (counted (length xs)) 49152))
 
 -- whether the last four bytes are the end marker
 abbrev pub marked : List ℕ → Bool
@@ -29,5 +31,5 @@ marked s = same (drop (length s - 4) s) (0x00 ∷ 0xED ∷ 0xED ∷ 0x00 ∷ [])
 -- a packed body s, from a place to the end of the file, goes 14, where the file ends, 11, 12; a plain one 12
 unfoldable pub bodyInto : Bool → List ℕ → ℕ → List ℕ → BodyResult
 bodyInto true area place s =
-    choose (marked s) (spreadFrom place (unpacked (take (length s - 4) s)) area) (bodyRefused (faultAt (place + length s) EndMarker))
+    choose (marked s) (spreadFrom place (unpacked (take (length s - 4) s)) area) (bodyRefused (faultIn 1 (place + length s) EndMarker))
 bodyInto false area place s = spreadFrom place (bytes s) area

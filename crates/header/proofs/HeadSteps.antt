@@ -1,5 +1,5 @@
 -- The header's refusals, at each return of the code.
-use Prim.Native.Nat.{ℕ, _/_, _%_, _<_, _≤_}
+use Prim.Native.Nat.{ℕ, _-_, _/_, _%_, _<_, _≤_}
 use native.Mathlib.Omega.{arith}
 use mathlib.Core.Path.{_≡_, sym, ap, _∙_}
 use mathlib.Core.Bool.{Bool, true, false}
@@ -10,10 +10,11 @@ use borrow.Author.Tests.{lt-ltb, le-ltb, le-leb, lt-leb, eq-eqb, ne-eqb}
 use Rattle.slices.specs.Choose.{choose}
 use Rattle.slices.specs.Bytes.{at, wordAt}
 use Rattle.pages.specs.declared.Model.{Model}
-use Rattle.pages.specs.declared.Model.the-variants.{K48}
+use Rattle.pages.specs.declared.Model.the-variants.{K48, K128}
 use Rattle.spectrum.specs.declared.Attachment.{Attachment}
 use Rattle.spectrum.specs.declared.Attachment.the-variants.{Nothing}
-use Rattle.numbers.specs.declared.Refusal.the-variants.{FileShort, UnknownVersion, ModeNotCarried, InterruptMode, CounterRange, Byte60}
+use Rattle.numbers.specs.declared.Refusal.the-variants.{UnknownVersion, ModeNotCarried, InterruptMode, Byte60}
+use Rattle.numbers.specs.Faults.{unplaced, tooShort, counterBeyond}
 use Rattle.clock.specs.Clock.{quarter}
 use Rattle.header.specs.declared.Version.{Version}
 use Rattle.header.specs.declared.Version.the-variants.{V1, V2, V3}
@@ -68,33 +69,33 @@ mode-v3 v n r e q = rw e q
 
 -- v1
 module _ (s : List ℕ) (b : ℕ) (eb : b ≡ byte12Of s) where
-  pub first-samrom : b / 16 % 2 ≡ 1 → Refused ModeNotCarried ≡ firstHead s
-  first-samrom h = rw (← eb, eq-eqb (b / 16 % 2) 1 h)
+  pub first-samrom : (r : Head) → b / 16 % 2 ≡ 1 → r ≡ Refused (unplaced ModeNotCarried) → r ≡ firstHead s
+  first-samrom r h q = rw (← eb, eq-eqb (b / 16 % 2) 1 h) q
 
-  pub first-im : (b / 16 % 2 ≡ 1 → ⊥) → at s 29 % 4 ≡ 3 → Refused InterruptMode ≡ firstHead s
-  first-im h k = rw (← eb, ne-eqb (b / 16 % 2) 1 h, eq-eqb (at s 29 % 4) 3 k)
+  pub first-im : (r : Head) → (b / 16 % 2 ≡ 1 → ⊥) → at s 29 % 4 ≡ 3 → r ≡ Refused (unplaced InterruptMode) → r ≡ firstHead s
+  first-im r h k q = rw (← eb, ne-eqb (b / 16 % 2) 1 h, eq-eqb (at s 29 % 4) 3 k) q
 
   pub first-good : (b / 16 % 2 ≡ 1 → ⊥) → (at s 29 % 4 ≡ 3 → ⊥) → Header V1 K48 Nothing ≡ firstHead s
   first-good h k = rw (← eb, ne-eqb (b / 16 % 2) 1 h, ne-eqb (at s 29 % 4) 3 k)
 
 -- the clock
 module _ (model : Model) (a : Attachment) (s : List ℕ) (q w : ℕ) (eq : q ≡ quarter model) (ew : w ≡ wordAt s 55) where
-  pub clock-low : q ≤ w → Refused CounterRange ≡ clockHead V3 model a s
-  clock-low h = rw (← eq, ← ew, le-leb q w h)
+  pub clock-low : (r : Head) → q ≤ w → r ≡ Refused (counterBeyond w (q - 1)) → r ≡ clockHead V3 model a s
+  clock-low r h p = rw (← eq, ← ew, le-leb q w h) p
 
-  pub clock-high : w < q → 3 < at s 57 → Refused CounterRange ≡ clockHead V3 model a s
-  clock-high h k = rw (← eq, ← ew, lt-leb q w h, lt-ltb 3 (at s 57) k)
+  pub clock-high : (n : ℕ) (r : Head) → w < q → 3 < at s 57 → n ≡ at s 57 → r ≡ Refused (counterBeyond n 3) → r ≡ clockHead V3 model a s
+  clock-high n r h k z p = rw (← eq, ← ew, lt-leb q w h, lt-ltb 3 (at s 57) k, ← z) p
 
-  pub clock-60 : w < q → at s 57 ≤ 3 → (at s 60 ≡ 0 → ⊥) → Refused Byte60 ≡ clockHead V3 model a s
-  clock-60 h k z = rw (← eq, ← ew, lt-leb q w h, le-ltb 3 (at s 57) k, ne-eqb (at s 60) 0 z)
+  pub clock-60 : (r : Head) → w < q → at s 57 ≤ 3 → (at s 60 ≡ 0 → ⊥) → r ≡ Refused (unplaced Byte60) → r ≡ clockHead V3 model a s
+  clock-60 r h k z p = rw (← eq, ← ew, lt-leb q w h, le-ltb 3 (at s 57) k, ne-eqb (at s 60) 0 z) p
 
   pub clock-good : w < q → at s 57 ≤ 3 → at s 60 ≡ 0 → Header V3 model a ≡ clockHead V3 model a s
   clock-good h k z = rw (← eq, ← ew, lt-leb q w h, le-ltb 3 (at s 57) k, eq-eqb (at s 60) 0 z)
 
 -- a mode that is carried
 module _ (v : Version) (model : Model) (a : Attachment) (s : List ℕ) where
-  pub mode-im : at s 29 % 4 ≡ 3 → Refused InterruptMode ≡ modeHead v (Carried model a) s
-  mode-im h = rw (eq-eqb (at s 29 % 4) 3 h)
+  pub mode-im : (r : Head) → at s 29 % 4 ≡ 3 → r ≡ Refused (unplaced InterruptMode) → r ≡ modeHead v (Carried model a) s
+  mode-im r h q = rw (eq-eqb (at s 29 % 4) 3 h) q
 
   module _ (h : at s 29 % 4 ≡ 3 → ⊥) where
     pub mode-1 : v ≡ V1 → Header V1 model a ≡ modeHead v (Carried model a) s
@@ -108,38 +109,38 @@ module _ (v : Version) (model : Model) (a : Attachment) (s : List ℕ) where
 
 -- the later versions
 module _ (v : Version) (s : List ℕ) (l : ℕ) (el : l ≡ headerLength v) where
-  pub later-short : length s < l → Refused FileShort ≡ laterHead (Is v) s
-  later-short h = rw (← el, lt-ltb (length s) l h)
+  pub later-short : (r : Head) → length s < l → r ≡ Refused (tooShort (length s) l) → r ≡ laterHead (Is v) s
+  later-short r h q = rw (← el, lt-ltb (length s) l h) q
 
   module _ (f : Mode) (h : l ≤ length s) (ef : f ≡ modeOf v (at s 34)) where
-    pub later-mode : f ≡ NotCarried → Refused ModeNotCarried ≡ laterHead (Is v) s
-    later-mode e = rw (← el, le-ltb (length s) l h, ← ef, e)
+    pub later-mode : (r : Head) → f ≡ NotCarried → r ≡ Refused (unplaced ModeNotCarried) → r ≡ laterHead (Is v) s
+    later-mode r e q = rw (← el, le-ltb (length s) l h, ← ef, e) q
 
     pub later-good : (model : Model) (a : Attachment) (r : Head) → f ≡ Carried model a → r ≡ modeHead v (Carried model a) s → r ≡ laterHead (Is v) s
     later-good model a r e q = rw (← el, le-ltb (length s) l h, ← ef, e) q
 
 -- the whole
 module _ (s : List ℕ) where
-  pub head-30 : length s < 30 → Refused FileShort ≡ headOf s
+  pub head-30 : (r : Head) → length s < 30 → r ≡ Refused (tooShort (length s) 30) → r ≡ headOf s
   unfolding headOf
-  head-30 h = rw (lt-ltb (length s) 30 h)
+  head-30 r h q = rw (lt-ltb (length s) 30 h) q
 
   module _ (h : 30 ≤ length s) (w : ℕ) (ew : w ≡ wordAt s 6) where
     pub head-v1 : (r : Head) → (w ≡ 0 → ⊥) → r ≡ firstHead s → r ≡ headOf s
     unfolding headOf
     head-v1 r z q = rw (le-ltb (length s) 30 h, ← ew, ne-eqb w 0 z) q
 
-    pub head-32 : w ≡ 0 → length s < 32 → Refused FileShort ≡ headOf s
+    pub head-32 : (r : Head) → w ≡ 0 → length s < 32 → r ≡ Refused (tooShort (length s) 32) → r ≡ headOf s
     unfolding headOf
-    head-32 z k = rw (le-ltb (length s) 30 h, ← ew, eq-eqb w 0 z, lt-ltb (length s) 32 k)
+    head-32 r z k q = rw (le-ltb (length s) 30 h, ← ew, eq-eqb w 0 z, lt-ltb (length s) 32 k) q
 
     module _ (z : w ≡ 0) (k : 32 ≤ length s) (n : ℕ) (f : Known) (en : n ≡ wordAt s 30) (ef : f ≡ versionOf n) where
       head-is-later : laterHead f s ≡ headOf s
       unfolding headOf
       head-is-later = rw (le-ltb (length s) 30 h, ← ew, eq-eqb w 0 z, le-ltb (length s) 32 k, ← en, ← ef)
 
-      pub head-3 : f ≡ Unknown → Refused UnknownVersion ≡ headOf s
-      head-3 e = ap (λ (x : Known). laterHead x s) (sym e) ∙ head-is-later
+      pub head-3 : (r : Head) → f ≡ Unknown → r ≡ Refused (unplaced UnknownVersion) → r ≡ headOf s
+      head-3 r e q = q ∙ ap (λ (x : Known). laterHead x s) (sym e) ∙ head-is-later
 
       pub head-later : (v : Version) (r : Head) → f ≡ Is v → r ≡ laterHead (Is v) s → r ≡ headOf s
       head-later v r e q = q ∙ ap (λ (x : Known). laterHead x s) (sym e) ∙ head-is-later
@@ -152,3 +153,8 @@ later-long n f v e q = go (eqb n 23) (eqb n 54) (sym q ∙ e)
     go true y p = let w : v ≡ V2 = cc in rw w (omega arith)
     go false true p = let w : v ≡ V3 = cc in rw w (omega arith)
     go false false p = let w : _≡_ {A = ℕ} 0 1 = cc in absurd (omega arith)
+
+-- a quarter of a frame is not empty
+pub quarter-some : (model : Model) (q : ℕ) → q ≡ quarter model → 1 ≤ q
+quarter-some K48 q e = omega arith
+quarter-some K128 q e = omega arith

@@ -1,6 +1,6 @@
 -- What the header of a file says, or why it is refused: 2 (30 bytes), the version, 2 (32 bytes), 3, 2 (whole header), 4, 5, 6, 7;
--- v1 goes 4, 5.
-use Prim.Native.Nat.{ℕ, _%_}
+-- v1 goes 4, 5. Of these 2 and 6 have figures.
+use Prim.Native.Nat.{ℕ, _-_, _%_}
 use mathlib.Core.Bool.{Bool, not}
 use mathlib.Core.List.{List}
 use lib.ListN.{length}
@@ -11,7 +11,8 @@ use Rattle.pages.specs.declared.Model.{Model}
 use Rattle.pages.specs.declared.Model.the-variants.{K48, K128}
 use Rattle.spectrum.specs.declared.Attachment.{Attachment}
 use Rattle.spectrum.specs.declared.Attachment.the-variants.{Nothing, InterfaceI, Mgt}
-use Rattle.numbers.specs.declared.Refusal.the-variants.{FileShort, UnknownVersion, ModeNotCarried, InterruptMode, CounterRange, Byte60}
+use Rattle.numbers.specs.declared.Refusal.the-variants.{UnknownVersion, ModeNotCarried, InterruptMode, Byte60}
+use Rattle.numbers.specs.Faults.{unplaced, tooShort, counterBeyond}
 use Rattle.clock.specs.Clock.{quarter}
 use Rattle.header.specs.declared.Version.{Version}
 use Rattle.header.specs.declared.Version.the-variants.{V1, V2, V3}
@@ -64,32 +65,32 @@ modeOf V3 n = mode3 n
 abbrev pub badIm : List ℕ → Bool
 badIm s = eqb (at s 29 % 4) 3
 
--- v3: 6 unless "low is below q and high at most 3", then 7
+-- v3: 6 unless "low is below q and high at most 3", low before high, then 7
 abbrev pub clockHead : Version → Model → Attachment → List ℕ → Head
 clockHead V1 model attachment s = Header V1 model attachment
 clockHead V2 model attachment s = Header V2 model attachment
 clockHead V3 model attachment s =
-    choose (leb (quarter model) (wordAt s 55)) (Refused CounterRange)
-    (choose (ltb 3 (at s 57)) (Refused CounterRange)
-    (choose (not (eqb (at s 60) 0)) (Refused Byte60) (Header V3 model attachment)))
+    choose (leb (quarter model) (wordAt s 55)) (Refused (counterBeyond (wordAt s 55) (quarter model - 1)))
+    (choose (ltb 3 (at s 57)) (Refused (counterBeyond (at s 57) 3))
+    (choose (not (eqb (at s 60) 0)) (Refused (unplaced Byte60)) (Header V3 model attachment)))
 
 -- 4, then 5, then 6 and 7
 abbrev pub modeHead : Version → Mode → List ℕ → Head
-modeHead version NotCarried s = Refused ModeNotCarried
-modeHead version (Carried model attachment) s = choose (badIm s) (Refused InterruptMode) (clockHead version model attachment s)
+modeHead version NotCarried s = Refused (unplaced ModeNotCarried)
+modeHead version (Carried model attachment) s = choose (badIm s) (Refused (unplaced InterruptMode)) (clockHead version model attachment s)
 
 -- 3, then 2 (whole header), then the rest
 abbrev pub laterHead : Known → List ℕ → Head
-laterHead Unknown s = Refused UnknownVersion
-laterHead (Is version) s = choose (ltb (length s) (headerLength version)) (Refused FileShort) (modeHead version (modeOf version (at s 34)) s)
+laterHead Unknown s = Refused (unplaced UnknownVersion)
+laterHead (Is version) s = choose (ltb (length s) (headerLength version)) (Refused (tooShort (length s) (headerLength version))) (modeHead version (modeOf version (at s 34)) s)
 
 -- v1: 4 for SamRom, bit 4 of byte 12, then 5
 abbrev pub firstHead : List ℕ → Head
-firstHead s = choose (bitAt (byte12Of s) 16) (Refused ModeNotCarried) (choose (badIm s) (Refused InterruptMode) (Header V1 K48 Nothing))
+firstHead s = choose (bitAt (byte12Of s) 16) (Refused (unplaced ModeNotCarried)) (choose (badIm s) (Refused (unplaced InterruptMode)) (Header V1 K48 Nothing))
 
 unfoldable pub headOf : List ℕ → Head
 headOf s =
-    choose (ltb (length s) 30) (Refused FileShort)
+    choose (ltb (length s) 30) (Refused (tooShort (length s) 30))
     (choose (eqb (wordAt s 6) 0)
-    (choose (ltb (length s) 32) (Refused FileShort) (laterHead (versionOf (wordAt s 30)) s))
+    (choose (ltb (length s) 32) (Refused (tooShort (length s) 32)) (laterHead (versionOf (wordAt s 30)) s))
     (firstHead s))

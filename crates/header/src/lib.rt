@@ -1,4 +1,5 @@
 // What the header of a .Z80 file says before any machine is read: v1, v2 or v3, model and attachment, or why it is refused.
+use numbers::FileFault;
 use numbers::Refusal;
 use pages::Model;
 use spectrum::Attachment;
@@ -6,6 +7,7 @@ ghost use Prim.Native.Nat.{_+_, _<_, _≤_};
 ghost use mathlib.Core.Path.{_≡_};
 ghost use lib.ListN.{length};
 ghost use Rattle.slices.specs.Bytes.{wordAt};
+ghost use Rattle.numbers.specs.Faults.{withFigures};
 ghost use Rattle.clock.specs.Clock.{quarter};
 ghost use Rattle.header.specs.Heads.{byte12Of, headerLength, versionOf, mode2, mode3, modeOf, clockHead, modeHead, laterHead, firstHead, headOf};
 
@@ -27,7 +29,7 @@ pub enum Mode {
 
 // A file's header: a refusal, or what decides how the rest is read.
 pub enum Head {
-    Refused(Refusal),
+    Refused(FileFault),
     Header {
         version: Version,
         model: Model,
@@ -119,22 +121,29 @@ fn quarter_of(model: Model) -> u16
     }
 }
 
+// A header refused, with two figures.
+fn refused_head(why: Refusal, found: usize, due: usize) -> Head
+    ensures { λ r. ⌜ r ≡ Head.Refused (withFigures why found due) ⌝ }
+{
+    Head::Refused(numbers::figured(why, found, due))
+}
+
 // What the header of a file says, or why it is refused.
 pub fn read_head(file: &[u8]) -> Head
     ensures { λ r. ⌜ r ≡ headOf (now (file .entry)) ⌝ }
 {
     if file.len() < 30 {
-        return Head::Refused(Refusal::FileShort);
+        return refused_head(Refusal::FileShort, file.len(), 30);
     }
     if word(file, 6) != 0 {
         return first_head(file);
     }
     if file.len() < 32 {
-        return Head::Refused(Refusal::FileShort);
+        return refused_head(Refusal::FileShort, file.len(), 32);
     }
     let known = version_of(word(file, 30));
     match known {
-        Known::Unknown => Head::Refused(Refusal::UnknownVersion),
+        Known::Unknown => refused_head(Refusal::UnknownVersion, 0, 0),
         Known::Is(version) => later_head(file, version),
     }
 }
@@ -145,10 +154,10 @@ fn first_head(file: &[u8]) -> Head
 {
     let b = byte12(file);
     if b / 16 % 2 == 1 {
-        return Head::Refused(Refusal::ModeNotCarried);
+        return refused_head(Refusal::ModeNotCarried, 0, 0);
     }
     if file[29] % 4 == 3 {
-        return Head::Refused(Refusal::InterruptMode);
+        return refused_head(Refusal::InterruptMode, 0, 0);
     }
     Head::Header {
         version: Version::V1,
@@ -161,12 +170,13 @@ fn later_head(file: &[u8], version: Version) -> Head
     requires { ⌜ 55 ≤ headerLength version ⌝ }
     ensures { λ r. ⌜ r ≡ laterHead (Known.Is version) (now (file .entry)) ⌝ }
 {
-    if file.len() < header_length(version) {
-        return Head::Refused(Refusal::FileShort);
+    let least = header_length(version);
+    if file.len() < least {
+        return refused_head(Refusal::FileShort, file.len(), least);
     }
     let found = mode_of(version, file[34]);
     match found {
-        Mode::NotCarried => Head::Refused(Refusal::ModeNotCarried),
+        Mode::NotCarried => refused_head(Refusal::ModeNotCarried, 0, 0),
         Mode::Carried(model, attachment) => mode_head(file, version, model, attachment),
     }
 }
@@ -176,7 +186,7 @@ fn mode_head(file: &[u8], version: Version, model: Model, attachment: Attachment
     ensures { λ r. ⌜ r ≡ modeHead version (Mode.Carried model attachment) (now (file .entry)) ⌝ }
 {
     if file[29] % 4 == 3 {
-        return Head::Refused(Refusal::InterruptMode);
+        return refused_head(Refusal::InterruptMode, 0, 0);
     }
     match version {
         Version::V1 => Head::Header {
@@ -197,14 +207,17 @@ fn clock_head(file: &[u8], model: Model, attachment: Attachment) -> Head
     requires { ⌜ 86 ≤ length (now file) ⌝ }
     ensures { λ r. ⌜ r ≡ clockHead (Version.V3) model attachment (now (file .entry)) ⌝ }
 {
-    if quarter_of(model) <= word(file, 55) {
-        return Head::Refused(Refusal::CounterRange);
+    let quarter = quarter_of(model);
+    let low = word(file, 55);
+    if quarter <= low {
+        return refused_head(Refusal::CounterRange, low as usize, (quarter - 1) as usize);
     }
-    if 3 < file[57] {
-        return Head::Refused(Refusal::CounterRange);
+    let high = file[57];
+    if 3 < high {
+        return refused_head(Refusal::CounterRange, slices::wide(high), 3);
     }
     if file[60] != 0 {
-        return Head::Refused(Refusal::Byte60);
+        return refused_head(Refusal::Byte60, 0, 0);
     }
     Head::Header {
         version: Version::V3,

@@ -1,7 +1,7 @@
 // The numbers that calls answer: document 01's one table, and those that document 02 adds to it.
 ghost use mathlib.Core.Path.{_≡_};
 ghost use Rattle.numbers.specs.Numbers.{numberOf, refusalNumber};
-ghost use Rattle.numbers.specs.Faults.{unplaced};
+ghost use Rattle.numbers.specs.Faults.{faultIn, withFigures, otherLength, unplaced};
 
 // Why a call is refused, in the order of the table.
 pub enum Refusal {
@@ -43,17 +43,60 @@ pub enum Answer {
     Refused(Refusal),
 }
 
-// Why a file is refused, and the place in it that is named: an offset in the whole file, 0 where none is.
+// Why a file is refused; the place in it that is named, an offset in the whole file, 0 where none is; the block from 1 on, 0 where none is;
+// and two figures, what was found and what is due, 0 and 0 where the number has none.
 pub struct FileFault {
     pub why: Refusal,
     pub place: usize,
+    pub block: usize,
+    pub found: usize,
+    pub due: usize,
 }
 
-// A fault of a file that has no place in it.
+// A fault in a block, without figures.
+pub fn in_block(why: Refusal, place: usize, block: usize) -> FileFault
+    ensures { λ r. ⌜ r ≡ faultIn block place why ⌝ }
+{
+    FileFault {
+        why,
+        place,
+        block,
+        found: 0,
+        due: 0,
+    }
+}
+
+// A fault in no block and at no place, with its figures.
+pub fn figured(why: Refusal, found: usize, due: usize) -> FileFault
+    ensures { λ r. ⌜ r ≡ withFigures why found due ⌝ }
+{
+    FileFault {
+        why,
+        place: 0,
+        block: 0,
+        found,
+        due,
+    }
+}
+
+// The bytes of a block, at a place of the file, are of another length than is due.
+pub fn other_length(place: usize, block: usize, found: usize, due: usize) -> FileFault
+    ensures { λ r. ⌜ r ≡ otherLength block place found due ⌝ }
+{
+    FileFault {
+        why: Refusal::UnpackedLength,
+        place,
+        block,
+        found,
+        due,
+    }
+}
+
+// A fault of a file that has no place in it, and no figures.
 pub fn no_place(why: Refusal) -> FileFault
     ensures { λ r. ⌜ r ≡ unplaced why ⌝ }
 {
-    FileFault { why, place: 0 }
+    figured(why, 0, 0)
 }
 
 // The numbers of two calls.

@@ -1,5 +1,5 @@
 -- What unpacking into a lent part of n bytes answers and leaves there: the promise of `unpack`.
-use Prim.Native.Nat.{ℕ}
+use Prim.Native.Nat.{ℕ, min}
 use mathlib.Core.Path.{_≡_}
 use mathlib.Core.List.{List}
 use lib.ListN.{length, replicate}
@@ -9,10 +9,14 @@ use Rattle.packed.specs.Packed.{Found, malformed, bytes}
 use Rattle.packed.specs.declared.Unpacked.{Unpacked}
 use Rattle.packed.specs.declared.Unpacked.the-variants.{Good, WrongLength, Malformed}
 
--- malformed, and where, before the length is looked at; then the length
+-- a length, "counted no further than 65,536"
+abbrev pub counted : ℕ → ℕ
+counted n = min n 65536
+
+-- malformed, and where, before the length is looked at; then the length, and what it is
 abbrev pub answerOf : Found → ℕ → Unpacked
 answerOf (malformed i) n = Malformed i
-answerOf (bytes xs) n = choose (eqb (length xs) n) Good WrongLength
+answerOf (bytes xs) n = choose (eqb (length xs) n) Good (WrongLength (counted (length xs)))
 
 -- the bytes where the answer is Good, and zeros otherwise
 abbrev pub leftBy : Found → ℕ → List ℕ

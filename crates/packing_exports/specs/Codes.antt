@@ -8,12 +8,17 @@ use Rattle.packed.specs.declared.Fit.the-variants.{Length, TooShort}
 abbrev pub unpackCode : Unpacked → ℕ
 unpackCode Good = 0
 unpackCode (Malformed i) = 1
-unpackCode WrongLength = 2
+unpackCode (WrongLength n) = 2
 
 abbrev pub badPlace : Unpacked → ℕ
 badPlace Good = 0
 badPlace (Malformed i) = i
-badPlace WrongLength = 0
+badPlace (WrongLength n) = 0
+
+abbrev pub foundLength : Unpacked → ℕ
+foundLength Good = 0
+foundLength (Malformed i) = 0
+foundLength (WrongLength n) = n
 
 abbrev pub packCode : Fit → ℕ
 packCode (Length n) = 0

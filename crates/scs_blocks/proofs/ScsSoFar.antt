@@ -1,7 +1,7 @@
 -- The loop over the blocks: what is found from here on is what is found from the start on.
 use Prim.Native.Nat.{ℕ, zero, suc, _+_, _-_, _<_, _≤_}
 use native.Mathlib.Omega.{arith}
-use mathlib.Core.Path.{_≡_, refl, sym, _∙_}
+use mathlib.Core.Path.{_≡_, refl, sym, ap, _∙_}
 use mathlib.Core.Bool.{Bool, true, false}
 use mathlib.Core.List.{List}
 use lib.ListN.{length}
@@ -10,6 +10,7 @@ use borrow.Author.Tests.{lt-ltb, le-ltb, le-leb, lt-leb, eq-eqb, ne-eqb}
 use Rattle.slices.specs.Choose.{choose}
 use Rattle.slices.specs.Bytes.{at}
 use Rattle.numbers.specs.declared.Refusal.the-variants.{BlockCut, ScsBlockTwice}
+use Rattle.numbers.specs.declared.FileFault.{FileFault}
 use Rattle.numbers.specs.Faults.{faultAt}
 use Rattle.scs_blocks.specs.declared.ScsPart.{ScsPart}
 use Rattle.scs_blocks.specs.declared.ScsPart.the-variants.{Stands}
@@ -61,18 +62,18 @@ module _ (file : List ℕ) (all : ScsFound) (seen : ScsSeen) (place : ℕ) (g : 
     found-end e = rw (eq-eqb (at file place) 0 e) at (block-to-come .1 .1)
 
     module _ (n : at file place ≡ 0 → ⊥) where
-      pub cut-head : length file - place < 5 → Bad (faultAt place BlockCut) ≡ all
-      cut-head l = rw (ne-eqb (at file place) 0 n, lt-ltb (length file) (place + 5) (omega arith)) at (block-to-come .1 .1)
+      pub cut-head : (fault : FileFault) → length file - place < 5 → fault ≡ faultAt place BlockCut → Bad fault ≡ all
+      cut-head fault l f = ap Bad f ∙ rw (ne-eqb (at file place) 0 n, lt-ltb (length file) (place + 5) (omega arith)) at (block-to-come .1 .1)
 
       module _ (l : 5 ≤ length file - place) (size : ℕ) (e : size ≡ sizeAt file (place + 1)) where
-        pub cut-data : length file - place - 5 < size → Bad (faultAt place BlockCut) ≡ all
-        cut-data k =
-            rw (ne-eqb (at file place) 0 n, le-ltb (length file) (place + 5) (omega arith), ← e, lt-ltb (length file) (place + 5 + size) (omega arith)) at (block-to-come .1 .1)
+        pub cut-data : (fault : FileFault) → length file - place - 5 < size → fault ≡ faultAt place BlockCut → Bad fault ≡ all
+        cut-data fault k f =
+            ap Bad f ∙ rw (ne-eqb (at file place) 0 n, le-ltb (length file) (place + 5) (omega arith), ← e, lt-ltb (length file) (place + 5 + size) (omega arith)) at (block-to-come .1 .1)
 
         module _ (k : size ≤ length file - place - 5) (part : ScsPart) (p : part ≡ partOf seen (at file place)) (there : Bool) (t : there ≡ isThere part) where
-          pub seen-twice : there ≡ true → Bad (faultAt place ScsBlockTwice) ≡ all
-          seen-twice q =
-              rw (ne-eqb (at file place) 0 n, le-ltb (length file) (place + 5) (omega arith), ← e, le-ltb (length file) (place + 5 + size) (omega arith), ← p, ← t, q) at (block-to-come .1 .1)
+          pub seen-twice : (fault : FileFault) → there ≡ true → fault ≡ faultAt place ScsBlockTwice → Bad fault ≡ all
+          seen-twice fault q f =
+              ap Bad f ∙ rw (ne-eqb (at file place) 0 n, le-ltb (length file) (place + 5) (omega arith), ← e, le-ltb (length file) (place + 5 + size) (omega arith), ← p, ← t, q) at (block-to-come .1 .1)
 
           pub scs-more : (next : ScsSeen) → there ≡ false → next ≡ noted seen (at file place) (Stands (place + 5) size) → ScsSoFar file all next (place + 5 + size)
           scs-more next q d =

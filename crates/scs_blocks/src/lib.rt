@@ -43,17 +43,17 @@ pub fn find_blocks(file: &[u8], from: usize) -> ScsFound
         let left = file.len() - place;
         if left < 5 {
             let why = Refusal::BlockCut;
-            return ScsFound::Bad(FileFault { why, place });
+            return ScsFound::Bad(numbers::in_block(why, place, 0));
         }
         let size = size_at(file, place + 1);
         if left - 5 < size {
             let why = Refusal::BlockCut;
-            return ScsFound::Bad(FileFault { why, place });
+            return ScsFound::Bad(numbers::in_block(why, place, 0));
         }
         let part = part_of(seen, number);
         if is_there(part) {
             let why = Refusal::ScsBlockTwice;
-            return ScsFound::Bad(FileFault { why, place });
+            return ScsFound::Bad(numbers::in_block(why, place, 0));
         }
         seen = note(seen, number, place + 5, size);
         place = place + 5 + size;

@@ -4,6 +4,8 @@ ghost use mathlib.Core.Path.{_≡_};
 ghost use lib.ListN.{length};
 ghost use Rattle.five_calls.specs.declared.Call.the-variants.{Byte, Pair, Out, Undo, Redo};
 ghost use Rattle.file_bytes.specs.Files.{readOfBytes, ReadsBytes, writeOfBytes, WritesBytes};
+ghost use Rattle.z80explain.specs.Explain.{explainOf};
+ghost use Rattle.explain_bytes.specs.Explains.{ExplainsBytes};
 ghost use Rattle.scs_bytes.specs.ScsBytes.{scsReadOfBytes, scsWriteOfBytes};
 ghost use Rattle.journal_bytes.specs.Calls.{buffersIn, buffersOut, snapCall, CallLeaves, LogStarts};
 ghost use Rattle.view_bytes.specs.Views.{Shows, showOf};
@@ -29,6 +31,20 @@ pub extern "C" fn snap_z80_read(
     ensures { λ r. ⌜ ReadsBytes (readOfBytes (now (file .entry)) (length (now (area .entry))) (length (now (head .entry)))) r (now (offset .exit)) (now (area .exit)) (now (head .exit)) ⌝ }
 {
     file_bytes::read(file, area, head, offset)
+}
+
+// Why a .Z80 file is refused: the number and the offset of reading, the block from 1 on, what was found and what is due.
+#[no_mangle]
+pub extern "C" fn snap_z80_explain(
+    file: &[u8],
+    offset: &mut u64,
+    block: &mut u64,
+    found: &mut u64,
+    due: &mut u64,
+) -> u32
+    ensures { λ r. ⌜ ExplainsBytes (explainOf (now (file .entry))) r (now (offset .exit)) (now (block .exit)) (now (found .exit)) (now (due .exit)) ⌝ }
+{
+    explain_bytes::explain(file, offset, block, found, due)
 }
 
 // A header and its area into the one v3 file.

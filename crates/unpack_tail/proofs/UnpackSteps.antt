@@ -11,7 +11,7 @@ use lib.Dec.{eqb}
 use borrow.Author.Tests.{ne-eqb, eq-eqb}
 use Rattle.packed.specs.Packed.{Found, malformed, bytes, before, run, unpacked}
 use Rattle.packed.specs.Packed.CodeLaws.{front-plain, front-cut, front-run, unpacked-nil}
-use Rattle.packed.specs.Unpacking.{answerOf, leftBy, Unpacks}
+use Rattle.packed.specs.Unpacking.{counted, answerOf, leftBy, Unpacks}
 use Rattle.packed.specs.Inner.{over}
 use Rattle.codes.specs.Inner.{escapeAt}
 use Rattle.codes.proofs.Escape.{escape-there}
@@ -41,86 +41,94 @@ module _ (s : List ℕ) (i : ℕ) (r : Bool) (e : r ≡ escapeAt s i) where
 pub step-end : (s : List ℕ) (i : ℕ) → length s ≤ i → unpacked (drop i s) ≡ bytes []
 step-end s i h = ap unpacked (drop-of-length-le s {i = i} h) ∙ unpacked-nil
 
--- the answer where the part is full and what is at i is left
-abbrev pub overAt : List ℕ → ℕ → Unpacked
-overAt s i = over (before i [] (unpacked (drop i s)))
+-- the answer where o bytes are counted and what is at i is left
+abbrev pub overAt : List ℕ → ℕ → ℕ → Unpacked
+overAt s i o = over o (before i [] (unpacked (drop i s)))
 
--- k bytes on
-over-before : (i k : ℕ) (xs : List ℕ) (u : Found) → over (before i [] (before k xs u)) ≡ over (before (i + k) [] u)
-over-before i k xs (malformed j) = ap Malformed (omega arith)
-over-before i k xs (bytes ys) = refl
+-- k bytes on, which stand for xs, and counted no further than 65,536
+over-before : (i k o : ℕ) (xs : List ℕ) (u : Found) → over o (before i [] (before k xs u)) ≡ over (counted (o + length xs)) (before (i + k) [] u)
+over-before i k o xs (malformed j) = ap Malformed (omega arith)
+over-before i k o xs (bytes ys) = ap WrongLength (omega (arith, length-append xs ys))
 
--- the search for a malformed code has come from `from` to i
-pub record Resting (s : List ℕ) (from i : ℕ) : Type 0 where
+over-counted : (o : ℕ) (u : Found) → over o u ≡ over (counted o) u
+over-counted o (malformed j) = refl
+over-counted o (bytes ys) = ap WrongLength (omega arith)
+
+-- the search for a malformed code has come from `from`, with o bytes counted, to i, with n
+pub record Resting (s : List ℕ) (from o i n : ℕ) : Type 0 where
   pub reach : i ≤ length s
-  pub same : overAt s from ≡ overAt s i
+  pub few : n ≤ 65536
+  pub same : overAt s from o ≡ overAt s i n
 
-pub resting-none : (s : List ℕ) (from : ℕ) → from ≤ length s → Resting s from from
-resting-none s from h = record { reach = h; same = refl }
+pub resting-none : (s : List ℕ) (from o n : ℕ) → from ≤ length s → n ≡ counted o → Resting s from o from n
+resting-none s from o n h e = record { reach = h; few = omega arith; same = over-counted o (before from [] (unpacked (drop from s))) ∙ ap (overAt s from) (sym e) }
 
-module _ (s : List ℕ) (from i : ℕ) (r : Bool) (g : Resting s from i) (e : r ≡ escapeAt s i) where
-  pub resting-plain : i < length s → r ≡ false → Resting s from (i + 1)
-  resting-plain h f =
-      record {
-        reach = omega arith;
-        same = g .same ∙ ap (λ (u : Found). over (before i [] u)) (step-plain s i r e h f) ∙ over-before i 1 (getD s i 0 ∷ []) (unpacked (drop (i + 1) s));
-      }
-
-  pub resting-run : i + 4 ≤ length s → r ≡ true → (getD s (i + 2) 0 ≡ 0 → ⊥) → Resting s from (i + 4)
-  resting-run h t z =
+module _ (s : List ℕ) (from o i n : ℕ) (r : Bool) (g : Resting s from o i n) (e : r ≡ escapeAt s i) where
+  -- k bytes on, which stand for xs
+  resting-on : (k m : ℕ) (xs : List ℕ) → unpacked (drop i s) ≡ before k xs (unpacked (drop (i + k) s)) → i + k ≤ length s → m ≡ counted (n + length xs) → Resting s from o (i + k) m
+  resting-on k m xs q h c =
       record {
         reach = h;
-        same =
-            g .same ∙ ap (λ (u : Found). over (before i [] u)) (step-run s i r e h t)
-            ∙ rw (ne-eqb (getD s (i + 2) 0) 0 z) (over-before i 4 (replicate (getD s (i + 2) 0) (getD s (i + 3) 0)) (unpacked (drop (i + 4) s)));
+        few = omega arith;
+        same = g .same ∙ ap (λ (u : Found). over n (before i [] u)) q ∙ over-before i k n xs (unpacked (drop (i + k) s)) ∙ ap (overAt s (i + k)) (sym c);
       }
 
-  resting-bad : unpacked (drop i s) ≡ malformed 0 → Malformed i ≡ overAt s from
-  resting-bad q = sym (g .same ∙ ap (λ (u : Found). over (before i [] u)) q ∙ ap Malformed (add-zero i))
+  pub resting-plain : (m : ℕ) → i < length s → r ≡ false → m ≡ counted (n + 1) → Resting s from o (i + 1) m
+  resting-plain m h f c = resting-on 1 m (getD s i 0 ∷ []) (step-plain s i r e h f) (omega arith) c
 
-  pub resting-cut : length s < i + 4 → r ≡ true → Malformed i ≡ overAt s from
+  pub resting-run : (k m : ℕ) → i + 4 ≤ length s → r ≡ true → k ≡ getD s (i + 2) 0 → (k ≡ 0 → ⊥) → m ≡ counted (n + k) → Resting s from o (i + 4) m
+  resting-run k m h t q z c =
+      resting-on 4 m (replicate k (getD s (i + 3) 0))
+      (step-run s i r e h t ∙ ap (λ (x : ℕ). run x (getD s (i + 3) 0) (unpacked (drop (i + 4) s))) (sym q) ∙ rw (ne-eqb k 0 z)) h
+      (c ∙ ap (λ (x : ℕ). counted (n + x)) (sym (length-replicate k (getD s (i + 3) 0))))
+
+  resting-bad : unpacked (drop i s) ≡ malformed 0 → Malformed i ≡ overAt s from o
+  resting-bad q = sym (g .same ∙ ap (λ (u : Found). over n (before i [] u)) q ∙ ap Malformed (add-zero i))
+
+  pub resting-cut : length s < i + 4 → r ≡ true → Malformed i ≡ overAt s from o
   resting-cut h t = resting-bad (step-cut s i r e h t)
 
-  pub resting-zero : i + 4 ≤ length s → r ≡ true → getD s (i + 2) 0 ≡ 0 → Malformed i ≡ overAt s from
-  resting-zero h t z = resting-bad (step-run s i r e h t ∙ rw (eq-eqb (getD s (i + 2) 0) 0 z))
+  pub resting-zero : (k : ℕ) → i + 4 ≤ length s → r ≡ true → k ≡ getD s (i + 2) 0 → k ≡ 0 → Malformed i ≡ overAt s from o
+  resting-zero k h t q z = resting-bad (step-run s i r e h t ∙ rw (eq-eqb (getD s (i + 2) 0) 0 (sym q ∙ z)))
 
-pub resting-end : (s : List ℕ) (from i : ℕ) → Resting s from i → length s ≤ i → WrongLength ≡ overAt s from
-resting-end s from i g h = sym (g .same ∙ ap (λ (u : Found). over (before i [] u)) (step-end s i h))
+pub resting-end : (s : List ℕ) (from o i n : ℕ) → Resting s from o i n → length s ≤ i → WrongLength n ≡ overAt s from o
+resting-end s from o i n g h = sym (g .same ∙ ap (λ (u : Found). over n (before i [] u)) (step-end s i h) ∙ ap WrongLength (omega (arith, g .few)))
 
-over-not-good : (u : Found) → over u ≡ Good → ⊥
-over-not-good (malformed i) q = let z : _≡_ {A = ℕ} 0 1 = cc in omega arith
-over-not-good (bytes xs) q = let z : _≡_ {A = ℕ} 0 1 = cc in omega arith
+over-not-good : (o : ℕ) (u : Found) → over o u ≡ Good → ⊥
+over-not-good o (malformed i) q = let z : _≡_ {A = ℕ} 0 1 = cc in omega arith
+over-not-good o (bytes xs) q = let z : _≡_ {A = ℕ} 0 1 = cc in omega arith
 
 left-refused : (u : Found) (n : ℕ) → (answerOf u n ≡ Good → ⊥) → replicate n 0 ≡ leftBy u n
 left-refused (malformed i) n h = refl
 left-refused (bytes xs) n h = go (eqb (length xs) n) h
   where
-    go : (t : Bool) → (choose t Good WrongLength ≡ Good → ⊥) → replicate n 0 ≡ choose t xs (replicate n 0)
+    go : (t : Bool) → (choose t Good (WrongLength (counted (length xs))) ≡ Good → ⊥) → replicate n 0 ≡ choose t xs (replicate n 0)
     go true h = absurd (h refl)
     go false h = refl
 
-over-full : (i k : ℕ) (xs ys : List ℕ) (w : Found) (n : ℕ) → n < length xs + length ys → over (before i [] (before k ys w)) ≡ answerOf (before i xs (before k ys w)) n
+over-full : (i k : ℕ) (xs ys : List ℕ) (w : Found) (n : ℕ) → n < length xs + length ys
+    → over (length xs) (before i [] (before k ys w)) ≡ answerOf (before i xs (before k ys w)) n
 over-full i k xs ys (malformed j) n h = refl
 over-full i k xs ys (bytes zs) n h =
     let l : length (xs ++ (ys ++ zs)) ≡ length xs + (length ys + length zs) = length-append xs (ys ++ zs) ∙ ap (λ (m : ℕ). length xs + m) (length-append ys zs) in
-    simp (ne-eqb (length (xs ++ (ys ++ zs))) n (λ e. omega arith))
+    rw (ne-eqb (length (xs ++ (ys ++ zs))) n (λ e. omega arith)) (ap (λ (m : ℕ). WrongLength (counted m)) (sym (length-append xs (ys ++ zs))))
 
 module _ (u : Found) (s d₀ d : List ℕ) (i o : ℕ) (g : Frame unpacked u s d₀ d i o) where
   module _ (why r : Unpacked) (d′ : List ℕ) (c : (r ≡ why) × (d′ ≡ replicate (length d) 0)) where
     -- the answer is a refusal
-    refused-into : why ≡ answerOf u (length d₀) → (v : Found) → why ≡ over v → Unpacks u (length d₀) r d′
+    refused-into : why ≡ answerOf u (length d₀) → (v : Found) → why ≡ over o v → Unpacks u (length d₀) r d′
     refused-into e v w =
         record {
           answer = c .0 ∙ e;
-          memory = c .1 ∙ ap (λ (n : ℕ). replicate n 0) (g .long) ∙ left-refused u (length d₀) (λ q. over-not-good v (sym w ∙ e ∙ q));
+          memory = c .1 ∙ ap (λ (n : ℕ). replicate n 0) (g .long) ∙ left-refused u (length d₀) (λ q. over-not-good o v (sym w ∙ e ∙ q));
         }
 
     -- the output is full, and what is at i stands for ys and more
-    over-into : (k : ℕ) (ys : List ℕ) (w : Found) → why ≡ overAt s i → unpacked (drop i s) ≡ before k ys w → length d < o + length ys → Unpacks u (length d₀) r d′
+    over-into : (k : ℕ) (ys : List ℕ) (w : Found) → why ≡ overAt s i o → unpacked (drop i s) ≡ before k ys w → length d < o + length ys → Unpacks u (length d₀) r d′
     over-into k ys w er eu h =
         let l : length (take o d) ≡ o = length-take-le o d (g .room) in
         refused-into
-        (er ∙ ap (λ (u : Found). over (before i [] u)) eu ∙ over-full i k (take o d) ys w (length d₀) (omega (arith, g .long))
+        (er ∙ ap (λ (u : Found). over o (before i [] u)) eu ∙ ap (λ (m : ℕ). over m (before i [] (before k ys w))) (sym l) ∙ over-full i k (take o d) ys w (length d₀) (omega (arith, g .long))
         ∙ ap (λ (u : Found). answerOf u (length d₀)) (sym (g .same ∙ ap (before i (take o d)) eu)))
         (before i [] (unpacked (drop i s))) er
 
@@ -134,7 +142,7 @@ module _ (u : Found) (s d₀ d : List ℕ) (i o : ℕ) (g : Frame unpacked u s d
         onward unpacked u s d₀ d i o g d′ (getD s i 0 ∷ []) (i + 1) (o + 1) (stands unpacked s i 1 (getD s i 0 ∷ []) (step-plain s i r e h f) (omega arith))
         (stored-put d d′ (getD s i 0 ∷ []) o (omega arith) p) refl (omega arith)
 
-    pub full-plain : (why a : Unpacked) (d′ : List ℕ) → i < length s → r ≡ false → length d ≤ o → why ≡ overAt s i → (a ≡ why) × (d′ ≡ replicate (length d) 0)
+    pub full-plain : (why a : Unpacked) (d′ : List ℕ) → i < length s → r ≡ false → length d ≤ o → why ≡ overAt s i o → (a ≡ why) × (d′ ≡ replicate (length d) 0)
         → Unpacks u (length d₀) a d′
     full-plain why a d′ h f k p c = over-into why a d′ c 1 (getD s i 0 ∷ []) (unpacked (drop (i + 1) s)) p (step-plain s i r e h f) (omega arith)
 
@@ -149,7 +157,7 @@ module _ (u : Found) (s d₀ d : List ℕ) (i o : ℕ) (g : Frame unpacked u s d
       pub zero-into : (a : Unpacked) (d′ : List ℕ) → n ≡ 0 → (a ≡ Malformed i) × (d′ ≡ replicate (length d) 0) → Unpacks u (length d₀) a d′
       zero-into a d′ z c = bad-into (Malformed i) a d′ c refl (step-run s i r e h t ∙ rw (eq-eqb (getD s (i + 2) 0) 0 (sym en ∙ z)))
 
-      pub full-run : (why a : Unpacked) (d′ : List ℕ) → (n ≡ 0 → ⊥) → length d < o + n → why ≡ overAt s i → (a ≡ why) × (d′ ≡ replicate (length d) 0)
+      pub full-run : (why a : Unpacked) (d′ : List ℕ) → (n ≡ 0 → ⊥) → length d < o + n → why ≡ overAt s i o → (a ≡ why) × (d′ ≡ replicate (length d) 0)
           → Unpacks u (length d₀) a d′
       full-run why a d′ z k p c =
           over-into why a d′ c 4 (replicate n (getD s (i + 3) 0)) (unpacked (drop (i + 4) s)) p (run-stands z) (omega (arith, length-replicate n (getD s (i + 3) 0)))
@@ -176,8 +184,9 @@ module _ (u : Found) (s d₀ d : List ℕ) (i o : ℕ) (g : Frame unpacked u s d
       let q : eqb (length (take o d)) (length d₀) ≡ true = eq-eqb (length (take o d)) (length d₀) (omega (arith, g .long)) in
       record { answer = rw (all-read h, q); memory = rw (all-read h, q) (sym (take-all o d (omega arith))) }
 
-  pub wrong-into : (a : Unpacked) (d′ : List ℕ) → length s ≤ i → (o ≡ length d → ⊥) → (a ≡ WrongLength) × (d′ ≡ replicate (length d) 0) → Unpacks u (length d₀) a d′
-  wrong-into a d′ h e c =
+  pub wrong-into : (m : ℕ) (a : Unpacked) (d′ : List ℕ) → length s ≤ i → (o ≡ length d → ⊥) → m ≡ counted o → (a ≡ WrongLength m) × (d′ ≡ replicate (length d) 0)
+      → Unpacks u (length d₀) a d′
+  wrong-into m a d′ h e q′ c =
       let l : length (take o d) ≡ o = length-take-le o d (g .room) in
       let q : eqb (length (take o d)) (length d₀) ≡ false = ne-eqb (length (take o d)) (length d₀) (λ z. e (omega (arith, g .long))) in
-      refused-into WrongLength a d′ c (rw (all-read h, q)) (bytes []) refl
+      refused-into (WrongLength m) a d′ c (rw (all-read h, q) (ap WrongLength (q′ ∙ ap counted (sym l)))) (bytes []) (ap WrongLength (q′ ∙ ap counted (sym (add-zero o))))

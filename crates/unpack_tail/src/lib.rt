@@ -6,7 +6,7 @@ ghost use mathlib.Core.Path.{_≡_};
 ghost use mathlib.Core.List.{[]};
 ghost use lib.ListN.{length, take, drop, replicate};
 ghost use Rattle.packed.specs.Packed.{before, unpacked};
-ghost use Rattle.packed.specs.Unpacking.{Unpacks};
+ghost use Rattle.packed.specs.Unpacking.{counted, Unpacks};
 ghost use Rattle.packed.specs.Inner.{over};
 
 // The rest of src unpacked, from `from` on, into dst from `at` on, after what stands before `at`; dst is all zero unless the answer
@@ -28,7 +28,7 @@ pub fn unpack_rest(src: &[u8], from: usize, dst: &mut [u8], at: usize) -> Unpack
             }
             let e = o + count;
             if dst.len() < e {
-                let why = rest(src, i);
+                let why = rest(src, i, o);
                 return refused_part(dst, why);
             }
             stores::fill_run(dst, o, count, src[i + 3]);
@@ -36,7 +36,7 @@ pub fn unpack_rest(src: &[u8], from: usize, dst: &mut [u8], at: usize) -> Unpack
             i += 4;
         } else {
             if dst.len() <= o {
-                let why = rest(src, i);
+                let why = rest(src, i, o);
                 return refused_part(dst, why);
             }
             stores::put_one(dst, o, src[i]);
@@ -47,7 +47,7 @@ pub fn unpack_rest(src: &[u8], from: usize, dst: &mut [u8], at: usize) -> Unpack
     if o == dst.len() {
         return Unpacked::Good;
     }
-    refused_part(dst, Unpacked::WrongLength)
+    refused_part(dst, Unpacked::WrongLength(up_to(o)))
 }
 
 // What is refused leaves dst all zero.
@@ -58,24 +58,36 @@ pub fn refused_part(dst: &mut [u8], why: Unpacked) -> Unpacked
     why
 }
 
-// The answer where dst is full and the bytes from `from` on are left: the first bad code among them still decides.
-pub fn rest(src: &[u8], from: usize) -> Unpacked
+// A length, counted no further than 65,536.
+pub fn up_to(n: usize) -> usize
+    ensures { λ r. ⌜ r ≡ counted n ⌝ }
+{
+    if n < 65536 { n } else { 65536 }
+}
+
+// The answer where o bytes are counted and the bytes of src from `from` on are left, without a place to write: the first bad code among
+// them still decides.
+pub fn rest(src: &[u8], from: usize, o: usize) -> Unpacked
     requires { ⌜ from ≤ length (now src) ⌝ }
-    ensures { λ r. ⌜ r ≡ over (before from [] (unpacked (drop from (now (src .entry))))) ⌝ }
+    ensures { λ r. ⌜ r ≡ over o (before from [] (unpacked (drop from (now (src .entry))))) ⌝ }
 {
     let mut i = from;
+    let mut n = up_to(o);
     while i < src.len() {
         if escape_at(src, i) {
             if src.len() < i + 4 {
                 return Unpacked::Malformed(i);
             }
-            if src[i + 2] == 0 {
+            let run = slices::wide(src[i + 2]);
+            if run == 0 {
                 return Unpacked::Malformed(i);
             }
+            n = up_to(n + run);
             i += 4;
         } else {
+            n = up_to(n + 1);
             i += 1;
         }
     }
-    Unpacked::WrongLength
+    Unpacked::WrongLength(n)
 }

@@ -76,7 +76,7 @@ module _ (s d₀ d : List ℕ) (i o m₀ : ℕ) (g : Unpacking s d₀ d i o m₀
     pub unpacking-zero : (a : Unpacked) (d″ : List ℕ) → n ≡ 0 → (a ≡ Malformed (i + k)) × (d″ ≡ replicate (length d′) 0) → Unpacks (unpacked s) (length d₀) a d″
     unpacking-zero a d″ z c = zero-into (unpacked s) s d₀ d′ (i + k) (o + k) reached true (code-there h) n code-fits refl en a d″ z c
 
-    pub unpacking-full : (why a : Unpacked) (d″ : List ℕ) → why ≡ overAt s (i + k) → (n ≡ 0 → ⊥) → length d′ < o + k + n
+    pub unpacking-full : (why a : Unpacked) (d″ : List ℕ) → why ≡ overAt s (i + k) (o + k) → (n ≡ 0 → ⊥) → length d′ < o + k + n
         → (a ≡ why) × (d″ ≡ replicate (length d′) 0) → Unpacks (unpacked s) (length d₀) a d″
     unpacking-full why a d″ r z j c = full-run (unpacked s) s d₀ d′ (i + k) (o + k) reached true (code-there h) n code-fits refl en why a d″ z j r c
 

@@ -41,7 +41,7 @@ pub fn unpack(src: &[u8], dst: &mut [u8]) -> Unpacked
             } else {
                 let e = q + n;
                 if dst.len() < e {
-                    let why = rest(src, p);
+                    let why = rest(src, p, q);
                     return refused_part(dst, why);
                 }
                 stores::fill_run(dst, q, n, y);

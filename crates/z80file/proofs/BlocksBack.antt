@@ -16,14 +16,13 @@ use Rattle.packed.specs.Packed.{bytes, packed}
 use Rattle.packed.specs.Packed.Promise.{unpacked-packed}
 use Rattle.pages.specs.declared.Model.{Model}
 use Rattle.pages.specs.declared.Model.the-variants.{K48, K128}
-use Rattle.numbers.specs.declared.Refusal.the-variants.{BlockMissing}
-use Rattle.numbers.specs.Faults.{unplaced}
+use Rattle.numbers.specs.Faults.{missing}
 use Rattle.pages.specs.Pages.{slots, pageAmong, owned, pageIn}
 use Rattle.pages.proofs.Inside.{page-long}
 use Rattle.block_pages.specs.declared.Page.the-variants.{At}
 use Rattle.block_read.specs.Block.{Block, brought, sizeOf, contents, onPage, blockOf}
 use Rattle.blocks.specs.Blocks.{bodyRead, bodyRefused, afterBlock, finished, blocks, noneSeen, blocksInto}
-use Rattle.block_pages.specs.Numbered.{pageOf, allThere}
+use Rattle.block_pages.specs.Numbered.{pageOf, allThere, pagesSeen, pagesDue}
 use Rattle.blocks.proofs.BlocksSoFar.{blocksOnward, turn, ended}
 use Rattle.pages.specs.declared.Slot.{Slot}
 use Rattle.block_write.specs.BlockFor.{blockFor}
@@ -228,5 +227,5 @@ blocks-back model area place s =
     let r = laid-read model area (s .long) (slots model) (length (laid (slots model) area)) noneSeen (blank 131072) place (omega arith) (fresh model) refl (blank-long 131072) (agree-blank area) in
     let e : r .last ≡ area = same-area model area (r .last) s (r .long) (r .agree) in
     r .reading
-    ∙ ap (λ (b : Bool). choose b (bodyRead (r .last)) (bodyRefused (unplaced BlockMissing))) (all-slots-there model)
+    ∙ ap (λ (b : Bool). choose b (bodyRead (r .last)) (bodyRefused (missing (pagesSeen (allSlots model)) (pagesDue model)))) (all-slots-there model)
     ∙ ap bodyRead e

@@ -12,17 +12,18 @@ use Rattle.slices.specs.Bytes.{wordAt}
 use Rattle.slices.specs.Put.{put}
 use Rattle.slices.specs.Blank.{blank}
 use Rattle.packed.specs.Packed.{Found, malformed, unpacked, bytes}
+use Rattle.packed.specs.Unpacking.{counted}
 use Rattle.pages.specs.declared.Model.{Model}
 use Rattle.pages.specs.declared.Model.the-variants.{K48}
 use Rattle.numbers.specs.declared.FileFault.{FileFault}
-use Rattle.numbers.specs.Faults.{faultAt, unplaced}
-use Rattle.numbers.specs.declared.Refusal.the-variants.{BlockCut, BlockTwice, UnpackedLength, BlockMissing, EndMarker}
+use Rattle.numbers.specs.Faults.{faultIn, otherLength, missing}
+use Rattle.numbers.specs.declared.Refusal.the-variants.{BlockCut, BlockTwice, EndMarker}
 use Rattle.pages.specs.Pages.{owned}
 use Rattle.block_pages.specs.declared.Page.{Page}
 use Rattle.block_pages.specs.declared.Page.the-variants.{At, NoPage}
-use Rattle.block_read.specs.Block.{Block, refused, brought, sizeOf, contents, pageFrom, onPage, blockOf}
+use Rattle.block_read.specs.Block.{Block, refused, brought, sizeOf, contents, ordinal, pageFrom, onPage, blockOf}
 use Rattle.blocks.specs.Blocks.{BodyResult, bodyRefused, bodyRead, afterBlock, finished, blocks, noneSeen, blocksInto}
-use Rattle.block_pages.specs.Numbered.{pageOf, allThere}
+use Rattle.block_pages.specs.Numbered.{pageOf, allThere, pagesSeen, pagesDue}
 use Rattle.pages.proofs.PageSteps.{owned-small}
 use Rattle.block_pages.proofs.BlockNumbers.{page-owned}
 use Rattle.blocks.proofs.BlocksSoFar.{blocksOnward}
@@ -43,11 +44,11 @@ owned-refuse : (model : Model) (b : Bool) (fault : FileFault) (x : Block) → Ow
 owned-refuse model true fault x g = tt
 owned-refuse model false fault x g = g
 
-owned-data : (model : Model) (place : ℕ) (d : Found) (page : ℕ) (rest : List ℕ) → owned model page ≡ true → page < 8 → OwnedBlock model (pageFrom place d page rest)
-owned-data model place (malformed i) page rest o h = tt
-owned-data model place (bytes xs) page rest o h = go (eqb (length xs) 16384) refl
+owned-data : (model : Model) (block place : ℕ) (d : Found) (page : ℕ) (rest : List ℕ) → owned model page ≡ true → page < 8 → OwnedBlock model (pageFrom block place d page rest)
+owned-data model block place (malformed i) page rest o h = tt
+owned-data model block place (bytes xs) page rest o h = go (eqb (length xs) 16384) refl
   where
-    go : (b : Bool) → eqb (length xs) 16384 ≡ b → OwnedBlock model (choose b (brought page xs rest) (refused (faultAt place UnpackedLength)))
+    go : (b : Bool) → eqb (length xs) 16384 ≡ b → OwnedBlock model (choose b (brought page xs rest) (refused (otherLength block place (counted (length xs)) 16384)))
     go true e = (o, (h, eqb-true _ _ e))
     go false e = tt
 
@@ -58,14 +59,14 @@ owned-on : (model : Model) (place n : ℕ) (f : Page) (seen : List Bool) (d : Fo
 owned-on model place n NoPage seen d r e = tt
 owned-on model place n (At p) seen d r e =
     let o = owned-page model n p e in
-    owned-refuse model (getD seen p false) (faultAt place BlockTwice) (pageFrom place d p r) (owned-data model place d p r (o .0) (o .1))
+    owned-refuse model (getD seen p false) (faultIn (ordinal seen) place BlockTwice) (pageFrom (ordinal seen) place d p r) (owned-data model (ordinal seen) place d p r (o .0) (o .1))
 
 owned-block : (model : Model) (seen : List Bool) (place : ℕ) (s : List ℕ) → OwnedBlock model (blockOf model seen place s)
 unfolding blockOf
 owned-block model seen place s =
     let size = sizeOf (wordAt s 0) in
     let body = contents (eqb (wordAt s 0) 65535) (take size (drop 3 s)) in
-    let cut = faultAt place BlockCut in
+    let cut = faultIn (ordinal seen) place BlockCut in
     let on = onPage place (pageOf model (getD s 2 0)) seen body (drop (3 + size) s) in
     owned-refuse model (ltb (length s) 3) cut (choose (ltb (length s) (3 + size)) (refused cut) on)
     (owned-refuse model (ltb (length s) (3 + size)) cut on (owned-on model place (getD s 2 0) (pageOf model (getD s 2 0)) seen body (drop (3 + size) s) refl))
@@ -82,25 +83,24 @@ clean-put model a xs page s o h l =
         let w : true ≡ false = sym o ∙ ap (owned model) (sym q) ∙ e in
         let z : _≡_ {A = ℕ} 0 1 = cc in omega arith
 
-clean-finished : (model : Model) (b : Bool) (a : List ℕ) → Clean model a → CleanBody model (choose b (bodyRead a) (bodyRefused (unplaced BlockMissing)))
-clean-finished model true a s = s
-clean-finished model false a s = tt
+clean-choose : (model : Model) (b : Bool) (x y : BodyResult) → CleanBody model x → CleanBody model y → CleanBody model (choose b x y)
+clean-choose model true x y g h = g
+clean-choose model false x y g h = h
+
+clean-finished : (model : Model) (seen : List Bool) (a : List ℕ) → Clean model a → CleanBody model (finished model seen a)
+clean-finished model seen a s = clean-choose model (allThere model seen) (bodyRead a) (bodyRefused (missing (pagesSeen seen) (pagesDue model))) s tt
 
 clean-then : (model : Model) (x : Block) (f : ℕ → List ℕ → List ℕ → BodyResult) → OwnedBlock model x
     → ((page : ℕ) (xs rest : List ℕ) → owned model page ≡ true → page < 8 → length xs ≡ 16384 → CleanBody model (f page xs rest)) → CleanBody model (afterBlock x f)
 clean-then model (refused fault) f g k = tt
 clean-then model (brought page xs rest) f g k = k page xs rest (g .0) (g .1 .0) (g .1 .1)
 
-clean-choose : (model : Model) (b : Bool) (x y : BodyResult) → CleanBody model x → CleanBody model y → CleanBody model (choose b x y)
-clean-choose model true x y g h = g
-clean-choose model false x y g h = h
-
 clean-turns : (model : Model) (turns : ℕ) (seen : List Bool) (a : List ℕ) (place : ℕ) (s : List ℕ) → Clean model a → CleanBody model (blocks model turns seen a place s)
 unfolding blocks
-clean-turns model zero seen a place s k = clean-finished model (allThere model seen) a k
+clean-turns model zero seen a place s k = clean-finished model seen a k
 clean-turns model (suc turns) seen a place s k =
     let on = blocksOnward model turns seen a place s in
-    clean-choose model (eqb (length s) 0) (finished model seen a) (afterBlock (blockOf model seen place s) on) (clean-finished model (allThere model seen) a k)
+    clean-choose model (eqb (length s) 0) (finished model seen a) (afterBlock (blockOf model seen place s) on) (clean-finished model seen a k)
     (clean-then model (blockOf model seen place s) on (owned-block model seen place s)
     (λ page xs rest o h l. clean-turns model turns (set seen page true) (put a (page * 16384) xs) (place + (length s - length rest)) rest (clean-put model a xs page k o h l)))
 
@@ -131,7 +131,7 @@ clean-found : (place : ℕ) (f : Found) → CleanBody K48 (spreadFrom place f (b
 clean-found place (malformed i) = tt
 clean-found place (bytes xs) = go (eqb (length xs) 49152) refl
   where
-    go : (b : Bool) → eqb (length xs) 49152 ≡ b → CleanBody K48 (choose b (bodyRead (spread (blank 131072) xs)) (bodyRefused (faultAt place UnpackedLength)))
+    go : (b : Bool) → eqb (length xs) 49152 ≡ b → CleanBody K48 (choose b (bodyRead (spread (blank 131072) xs)) (bodyRefused (otherLength 1 place (counted (length xs)) 49152)))
     go true e = clean-spread xs (eqb-true _ _ e)
     go false e = tt
 
@@ -139,5 +139,5 @@ pub clean-body : (p : Bool) (place : ℕ) (s : List ℕ) → CleanBody K48 (body
 unfolding bodyInto
 clean-body true place s =
     let u = unpacked (take (length s - 4) s) in
-    clean-choose K48 (marked s) (spreadFrom place u (blank 131072)) (bodyRefused (faultAt (place + length s) EndMarker)) (clean-found place u) tt
+    clean-choose K48 (marked s) (spreadFrom place u (blank 131072)) (bodyRefused (faultIn 1 (place + length s) EndMarker)) (clean-found place u) tt
 clean-body false place s = clean-found place (bytes s)

@@ -118,7 +118,7 @@ read-start s n = go (eqb n 131072) refl (headOf s) refl
     o t x = choose t (afterHead x s n) (refusedRead (unplaced AreaLength) n)
 
     go : (t : Bool) → eqb n 131072 ≡ t → (x : Head) → headOf s ≡ x → o t x .answer ≡ Accepted → ReadGives (o t x .machine) (o t x .memory) n
-    go true e (Head.Refused w) q h = absurd (refused-not w h)
+    go true e (Head.Refused w) q h = absurd (refused-not (w .why) h)
     go true e (Header v model a) q h =
         accepted-start s n v model a (memoryInto v model (blank 131072) s) (eqb-true _ _ e) q (clean-memory v model s (opens s (headOf s) v model a refl q .first)) h
     go false e x q h = absurd (refused-not AreaLength h)

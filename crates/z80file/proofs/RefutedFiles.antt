@@ -27,7 +27,7 @@ use Rattle.z80read.specs.Read.{ReadResult, afterBody, afterHead, readOf}
 use Rattle.blocks_write.specs.Laid.{laid}
 use Rattle.z80write.specs.Written.{fileOf, WriteResult, writtenOf}
 use Rattle.z80write.proofs.FileWritten.{written-fits}
-use Rattle.numbers.specs.Faults.{unplaced}
+use Rattle.numbers.specs.Faults.{missing}
 use Rattle.z80write.proofs.Longest.{file-most}
 use Rattle.z80file.specs.Clean.{Clean}
 use Rattle.z80file.specs.RoundTrip.{BackOf}
@@ -68,7 +68,7 @@ refuted-fixed-machine fixed h =
     omega arith
 
 -- of no blocks all eight are missing
-no-blocks : blocksInto (sample .model) (blank 131072) 86 [] ≡ bodyRefused (unplaced BlockMissing)
+no-blocks : blocksInto (sample .model) (blank 131072) 86 [] ≡ bodyRefused (missing 0 8)
 unfolding sample blocksInto blocks allThere
 no-blocks = refl
 

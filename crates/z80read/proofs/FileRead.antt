@@ -32,7 +32,7 @@ use Rattle.header.proofs.AcceptedHeads.{opens}
 use Rattle.header_read.proofs.MachineValid.{machine-valid}
 use Rattle.blocks.specs.declared.BodyAnswer.{BodyAnswer}
 use Rattle.blocks.specs.declared.BodyAnswer.the-variants.{Whole, Faulty}
-use Rattle.blocks.specs.Blocks.{BodyResult, bodyRefused, bodyRead, ReadsBody, blocksInto}
+use Rattle.blocks.specs.Blocks.{BodyResult, bodyRefused, bodyRead, Lent, ReadsBody, blocksInto}
 use Rattle.body_v1.specs.Body.{bodyInto}
 use Rattle.z80read.specs.declared.Opened.{Opened}
 use Rattle.z80read.specs.Read.{memoryInto, ReadResult, refusedRead, afterBody, afterHead, readOf, ReadLeaves, Reads}
@@ -42,26 +42,26 @@ abbrev refusedOpened : FileFault → Opened
 refusedOpened fault = record { answer = Refused (fault .why); place = fault .place; machine = blankMachine }
 
 -- what follows the header, by version
-module _ (v : Version) (model : Model) (area s : List ℕ) (r : BodyAnswer) (after : List ℕ) where
-  pub memory-1 : (b : ℕ) → b ≡ byte12Of s → v ≡ V1 → ReadsBody (bodyInto (eqb (b / 32 % 2) 1) area 30 (drop 30 s)) r after → ReadsBody (memoryInto v model area s) r after
+module _ (v : Version) (model : Model) (area s : List ℕ) (n : ℕ) (r : BodyAnswer) (after : List ℕ) where
+  pub memory-1 : (b : ℕ) → b ≡ byte12Of s → v ≡ V1 → ReadsBody (bodyInto (eqb (b / 32 % 2) 1) area 30 (drop 30 s)) n r after → ReadsBody (memoryInto v model area s) n r after
   memory-1 b e q t = rw (q, ← e) t
 
-  pub memory-2 : v ≡ V2 → ReadsBody (blocksInto model area 55 (drop 55 s)) r after → ReadsBody (memoryInto v model area s) r after
+  pub memory-2 : v ≡ V2 → ReadsBody (blocksInto model area 55 (drop 55 s)) n r after → ReadsBody (memoryInto v model area s) n r after
   memory-2 q t = rw q t
 
-  pub memory-3 : v ≡ V3 → ReadsBody (blocksInto model area 86 (drop 86 s)) r after → ReadsBody (memoryInto v model area s) r after
+  pub memory-3 : v ≡ V3 → ReadsBody (blocksInto model area 86 (drop 86 s)) n r after → ReadsBody (memoryInto v model area s) n r after
   memory-3 q t = rw q t
 
 pub at-12 : (v : Version) (n : ℕ) → headerLength v ≤ n → 12 < n
 at-12 v n h = let k = long-30 v n h in omega arith
 
 -- the answer of what follows the header decides
-module _ (x : BodyResult) (m : Machine) (n : ℕ) (answer : BodyAnswer) (after : List ℕ) (t : ReadsBody x answer after) where
-  pub on-refused : (fault : FileFault) (r : Opened) → answer ≡ Faulty fault → r ≡ refusedOpened fault → n ≡ 131072 → ReadLeaves (afterBody x m n) r after
+module _ (x : BodyResult) (m : Machine) (n : ℕ) (answer : BodyAnswer) (after : List ℕ) (t : ReadsBody x n answer after) (l : n ≡ 131072) where
+  pub on-refused : (fault : FileFault) (r : Opened) → answer ≡ Faulty fault → r ≡ refusedOpened fault → ReadLeaves (afterBody x m n) r after
   unfolding blank
-  on-refused fault r e q l = go x t
+  on-refused fault r e q = go x t
     where
-      go : (x : BodyResult) → ReadsBody x answer after → ReadLeaves (afterBody x m n) r after
+      go : (x : BodyResult) → ReadsBody x n answer after → ReadLeaves (afterBody x m n) r after
       go (bodyRefused w) t =
           let z : Faulty w ≡ Faulty fault = sym (t .0) ∙ e in
           let f : w ≡ fault = cc in
@@ -69,16 +69,16 @@ module _ (x : BodyResult) (m : Machine) (n : ℕ) (answer : BodyAnswer) (after :
             answer = ap (λ (o : Opened). o .answer) q ∙ sym (ap (λ (x : FileFault). Refused (x .why)) f);
             place = ap (λ (o : Opened). o .place) q ∙ sym (ap (λ (x : FileFault). x .place) f);
             machine = ap (λ (o : Opened). o .machine) q;
-            memory = t .1 ∙ sym (ap (λ (k : ℕ). replicate k 0) l);
+            memory = t .1 l ∙ sym (ap (λ (k : ℕ). replicate k 0) l);
           }
       go (bodyRead a) t = let z : _≡_ {A = ℕ} 0 1 = cc in absurd (omega arith)
 
   pub on-accepted : (machine : Machine) (r : Opened) → answer ≡ Whole → machine ≡ m → r .answer ≡ Accepted → r .place ≡ 0 → r .machine ≡ machine → ReadLeaves (afterBody x m n) r after
   on-accepted machine r e q a p b = go x t
     where
-      go : (x : BodyResult) → ReadsBody x answer after → ReadLeaves (afterBody x m n) r after
+      go : (x : BodyResult) → ReadsBody x n answer after → ReadLeaves (afterBody x m n) r after
       go (bodyRefused w) t = let z : _≡_ {A = ℕ} 0 1 = cc in absurd (omega arith)
-      go (bodyRead area) t = record { answer = a; place = p; machine = b ∙ q; memory = t .1 }
+      go (bodyRead area) t = record { answer = a; place = p; machine = b ∙ q; memory = t .1 l }
 
 -- a refusal is not accepted, so nothing is said of its machine
 no-machine : (o : ReadResult) (why : Refusal) (r : Opened) (area : List ℕ) → ReadLeaves o r area → r .answer ≡ Refused why → Reads o r area
@@ -111,24 +111,25 @@ module _ (s before clear : List ℕ) (c₀ : clear ≡ take 0 before ++ replicat
     unfolding readOf
     read-after-head = rw (eq-eqb (length before) 131072 (sym clear-long ∙ h), ← eh)
 
-    pub read-refused : (why : Refusal) (fault : FileFault) (r : Opened) → head ≡ Head.Refused why → fault ≡ unplaced why → r ≡ refusedOpened fault → Reads (readOf s (length before)) r clear
-    read-refused why fault r e f q = read-none _ (unplaced why) r (q ∙ ap refusedOpened f) (sym read-after-head ∙ ap (λ (x : Head). afterHead x s (length before)) e)
+    pub read-refused : (fault : FileFault) (r : Opened) → head ≡ Head.Refused fault → r ≡ refusedOpened fault → Reads (readOf s (length before)) r clear
+    read-refused fault r e q = read-none _ fault r q (sym read-after-head ∙ ap (λ (x : Head). afterHead x s (length before)) e)
 
-    pub is-blank : clear ≡ blank 131072
+    is-blank : clear ≡ blank 131072
     unfolding blank
     is-blank = c ∙ ap (λ (k : ℕ). replicate k 0) (sym clear-long ∙ h)
+
+    pub is-lent : Lent clear
+    is-lent = record { zeros = λ _. is-blank; none = λ f. absurd (f h) }
 
     module _ (v : Version) (model : Model) (a : Attachment) (e : head ≡ Header v model a) where
       pub read-readable : Readable v model s
       read-readable = opens s head v model a eh e .readable
 
       pub read-on : (r : Opened) (area : List ℕ)
-          → ReadLeaves (afterBody (memoryInto v model clear s) (machineOf v model a s) (length clear)) r area → Reads (readOf s (length before)) r area
+          → ReadLeaves (afterBody (memoryInto v model (blank 131072) s) (machineOf v model a s) (length clear)) r area → Reads (readOf s (length before)) r area
       read-on r area l =
           let x = memoryInto v model (blank 131072) s in
-          let p : afterBody (memoryInto v model clear s) (machineOf v model a s) (length clear) ≡ afterBody x (machineOf v model a s) (length before) =
-          ap (λ (z : List ℕ). afterBody (memoryInto v model z s) (machineOf v model a s) (length clear)) is-blank
-          ∙ ap (afterBody x (machineOf v model a s)) clear-long in
+          let p : afterBody x (machineOf v model a s) (length clear) ≡ afterBody x (machineOf v model a s) (length before) = ap (afterBody x (machineOf v model a s)) clear-long in
           let q : afterBody x (machineOf v model a s) (length before) ≡ readOf s (length before) = sym (ap (λ (z : Head). afterHead z s (length before)) e) ∙ read-after-head in
           record {
             leaves = subst (λ (o : ReadResult). ReadLeaves o r area) (p ∙ q) l;

@@ -10,7 +10,7 @@ use Rattle.slices.specs.Blank.{blank}
 use Rattle.slices.proofs.Chosen.{either}
 use Rattle.spectrum.specs.declared.Machine.{Machine}
 use Rattle.pages.specs.declared.Model.{Model}
-use Rattle.numbers.specs.Numbers.{refusalNumber, numberOf}
+use Rattle.numbers.specs.Numbers.{numberOf}
 use Rattle.numbers.specs.Faults.{NamedPlace}
 use Rattle.numbers.proofs.FaultPlaces.{nowhere}
 use Rattle.header.specs.declared.Version.{Version}
@@ -43,7 +43,7 @@ after-body s (bodyRefused fault) m n p = p
 after-body s (bodyRead area) m n p = nowhere 0 (length s) refl
 
 after-head : (s : List ℕ) (n : ℕ) (x : Head) → headOf s ≡ x → ResultPlaced s (afterHead x s n)
-after-head s n (Head.Refused why) e = nowhere (refusalNumber why) (length s) (head-unplaced s why e)
+after-head s n (Head.Refused fault) e = head-unplaced s fault e
 after-head s n (Header v model a) e =
     after-body s (memoryInto v model (blank 131072) s) (machineOf v model a s) n (memory-placed v model (blank 131072) s (opens s (headOf s) v model a refl e .readable .long))
 

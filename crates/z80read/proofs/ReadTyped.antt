@@ -34,7 +34,7 @@ read-typed s n h = go (eqb n 131072) (headOf s) refl
     o t x = choose t (afterHead x s n) (refusedRead (unplaced AreaLength) n)
 
     go : (t : Bool) (x : Head) → headOf s ≡ x → o t x .answer ≡ Accepted → Typed (o t x .machine)
-    go true (Head.Refused w) q e = absurd (refused-not w e)
+    go true (Head.Refused w) q e = absurd (refused-not (w .why) e)
     go true (Header v k a) q e =
         result-typed (memoryInto v k (blank 131072) s) (machineOf v k a s) n (machine-typed s h v k a (opens s (headOf s) v k a refl q .readable)) e
     go false x q e = absurd (refused-not AreaLength e)

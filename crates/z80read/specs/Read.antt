@@ -55,7 +55,7 @@ afterBody (bodyRead area) m n = acceptedRead m area
 
 -- "An accepted read sets pages that the machine does not own to zero": the pages are laid over zeros
 abbrev pub afterHead : Head → List ℕ → ℕ → ReadResult
-afterHead (Head.Refused why) s n = refusedRead (unplaced why) n
+afterHead (Head.Refused fault) s n = refusedRead fault n
 afterHead (Header version model attachment) s n = afterBody (memoryInto version model (blank 131072) s) (machineOf version model attachment s) n
 
 -- the file s read into an area of n bytes: nothing but its length is known of the area

@@ -17,7 +17,7 @@ ghost use Rattle.spectrum.specs.Machine.{blankMachine};
 ghost use Rattle.header.specs.Heads.{headerLength};
 ghost use Rattle.header_read.specs.Reading.{machineOf};
 ghost use Rattle.header.specs.Inner.{Readable};
-ghost use Rattle.blocks.specs.Blocks.{ReadsBody};
+ghost use Rattle.blocks.specs.Blocks.{Lent, ReadsBody};
 ghost use Rattle.z80read.specs.Read.{memoryInto, afterBody, readOf, ReadLeaves, Reads};
 
 // What reading gives beside the area: the answer, the place in the file that is named with it, and the machine.
@@ -37,7 +37,7 @@ pub fn read(file: &[u8], area: &mut [u8]) -> Opened
     }
     let head = header::read_head(file);
     match head {
-        Head::Refused(why) => return refused_file(numbers::no_place(why)),
+        Head::Refused(fault) => return refused_file(fault),
         Head::Header {
             version,
             model,
@@ -54,8 +54,8 @@ fn read_on(
     attachment: Attachment,
     area: &mut [u8],
 ) -> Opened
-    requires { ⌜ (Readable version model (now file)) × ((length (now area) ≡ 131072) × (now area ≡ blank 131072)) ⌝ }
-    ensures { λ r. ⌜ ReadLeaves (afterBody (memoryInto version model (now (area .entry)) (now (file .entry))) (machineOf version model attachment (now (file .entry))) (length (now (area .entry)))) r (now (area .exit)) ⌝ }
+    requires { ⌜ (Readable version model (now file)) × ((length (now area) ≡ 131072) × Lent (now area)) ⌝ }
+    ensures { λ r. ⌜ ReadLeaves (afterBody (memoryInto version model (blank 131072) (now (file .entry))) (machineOf version model attachment (now (file .entry))) (length (now (area .entry)))) r (now (area .exit)) ⌝ }
 {
     let answer = read_memory(file, version, model, area);
     match answer {
@@ -67,10 +67,10 @@ fn read_on(
     }
 }
 
-// What follows the header, into an area of zeros. Refused, the area is all zero.
-fn read_memory(file: &[u8], version: Version, model: Model, area: &mut [u8]) -> BodyAnswer
-    requires { ⌜ (headerLength version ≤ length (now file)) × ((length (now area) ≡ 131072) × (now area ≡ blank 131072)) ⌝ }
-    ensures { λ r. ⌜ ReadsBody (memoryInto version model (now (area .entry)) (now (file .entry))) r (now (area .exit)) ⌝ }
+// What follows the header, into an area of zeros, or without one. Refused, the area is all zero.
+pub fn read_memory(file: &[u8], version: Version, model: Model, area: &mut [u8]) -> BodyAnswer
+    requires { ⌜ (headerLength version ≤ length (now file)) × Lent (now area) ⌝ }
+    ensures { λ r. ⌜ ReadsBody (memoryInto version model (blank 131072) (now (file .entry))) (length (now (area .entry))) r (now (area .exit)) ⌝ }
 {
     match version {
         Version::V1 => {

@@ -15,6 +15,9 @@ returns c = search fills-plain
 fill-requires : tie.Need-fill-requires
 fill-requires c κs = search needs
 
+up-to-requires : tie.Need-up-to-requires
+up-to-requires c κs = search needs
+
 same-length-2 : tie.Need-same-length-2
 same-length-2 c = search needs
 
@@ -38,6 +41,7 @@ fill-page-spec =
     same-length
     returns
     fill-requires
+    up-to-requires
     same-length-2
     returns-2
     unpack-requires

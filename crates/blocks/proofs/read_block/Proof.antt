@@ -1,4 +1,3 @@
-use native.Mathlib.Omega.{arith}
 use Prim.Native.Nat.{_+_, _<_}
 use denote.Ref.{now}
 use lib.ListN.{length}
@@ -13,35 +12,23 @@ head-at-requires c κs = search needs
 enum-known-why : tie.Need-enum-known-why
 enum-known-why c = search needs
 
+failed-requires : tie.Need-failed-requires
+failed-requires c κs = search needs
+
 enum-known-page : tie.Need-enum-known-page
 enum-known-page c = search needs
 
-mul-base : tie.Need-mul-base
-mul-base c = let h : c .before .page .given .0 .0 < 8 = search page-below in omega arith
+sub-fill-own : tie.Need-sub-fill-own
+sub-fill-own c = search data-ordered
 
-add-top : tie.Need-add-top
-add-top c = let h : c .before .page .given .0 .0 < 8 = search page-below in omega arith
+part-fill-own-start : tie.Need-part-fill-own-start
+part-fill-own-start c = search (needs, data-ordered)
 
-sub-fill-page : tie.Need-sub-fill-page
-sub-fill-page c = search data-ordered
+part-fill-own-end : tie.Need-part-fill-own-end
+part-fill-own-end c = search (needs, data-within)
 
-part-fill-page-start : tie.Need-part-fill-page-start
-part-fill-page-start c = search (needs, data-ordered)
-
-part-fill-page-end : tie.Need-part-fill-page-end
-part-fill-page-end c = search (needs, data-within)
-
-sub-fill-page-2 : tie.Need-sub-fill-page-2
-sub-fill-page-2 c = search needs
-
-part-fill-page-start-2 : tie.Need-part-fill-page-start-2
-part-fill-page-start-2 c = search needs
-
-part-fill-page-end-2 : tie.Need-part-fill-page-end-2
-part-fill-page-end-2 c = let h : c .before .before .page .given .0 .0 < 8 = search page-below in search needs
-
-fill-page-requires : tie.Need-fill-page-requires
-fill-page-requires c κs = search needs
+fill-own-requires : tie.Need-fill-own-requires
+fill-own-requires c κs = search page-below
 
 enum-told : tie.Need-enum-told
 enum-told c = search needs
@@ -49,13 +36,19 @@ enum-told c = search needs
 enum-known-filled : tie.Need-enum-known-filled
 enum-known-filled c = search needs
 
-add-place : tie.Need-add-place
-add-place c =
+add-failed : tie.Need-add-failed
+add-failed c =
     let b = c .before .before .before .before .before .before .before .before .before in
     let h : b .page .given .0 .1 .0 + c .before .filled .given .0 .0 < length (now (b .before .before .before .before .before .args .file)) = search bad-code-within in search needs
 
-enum-told-2 : tie.Need-enum-told-2
-enum-told-2 c = search needs
+failed-requires-2 : tie.Need-failed-requires-2
+failed-requires-2 c κs = search needs
+
+enum-known-filled-2 : tie.Need-enum-known-filled-2
+enum-known-filled-2 c = search needs
+
+failed-length-requires : tie.Need-failed-length-requires
+failed-length-requires c κs = search needs
 
 returns : tie.Need-returns
 returns c = search head-refuses
@@ -84,20 +77,18 @@ read-block-spec =
     (tie.spec
     head-at-requires
     enum-known-why
+    failed-requires
     enum-known-page
-    mul-base
-    add-top
-    sub-fill-page
-    part-fill-page-start
-    part-fill-page-end
-    sub-fill-page-2
-    part-fill-page-start-2
-    part-fill-page-end-2
-    fill-page-requires
+    sub-fill-own
+    part-fill-own-start
+    part-fill-own-end
+    fill-own-requires
     enum-told
     enum-known-filled
-    add-place
-    enum-told-2
+    add-failed
+    failed-requires-2
+    enum-known-filled-2
+    failed-length-requires
     returns
     same-length
     returns-2

@@ -1,20 +1,20 @@
-use borrow.Author.Needs.{needs}
-use Rattle.blocks.specs.Blocks.{blocksInto}
-use lib.ListN.{length, drop}
-use mathlib.Core.Path.{_≡_, refl}
 use Prim.Native.Nat.{_-_}
+use lib.ListN.{length, drop}
+use Rattle.slices.specs.Blank.{blank}
+use Rattle.blocks.specs.Blocks.{blocksInto}
 use Rattle.blocks.proofs.BlocksSoFar.{BlocksSoFar, blocks-begin, blocks-more, going-stop, going-all, going-missing, next-page, next-falls}
+use borrow.Author.Needs.{needs}
 use Rattle.blocks.proofs.read_blocks.Statement.{statement}
 use Rattle.blocks.proofs.read_blocks.Tie as tie
 
 abbrev Inv-loop : tie.InvT-loop
-Inv-loop file from model area₀ seen₀ at₀ area seen at = BlocksSoFar model file (blocksInto model area₀ from (drop from file)) area seen at × (length area ≡ length area₀)
+Inv-loop file from model area₀ seen₀ at₀ area seen at = BlocksSoFar model file (blocksInto model (blank 131072) from (drop from file)) (length area₀) area seen at
 
 abbrev μ-loop : tie.MeasureT-loop
 μ-loop file from model area₀ seen₀ at₀ area seen at = length file - at
 
 loop-holds : tie.Need-loop-holds Inv-loop μ-loop
-loop-holds c = (blocks-begin _ _ _ _, refl)
+loop-holds c = search blocks-begin
 
 read-block-requires : tie.Need-read-block-requires Inv-loop μ-loop
 read-block-requires c κs = search needs
@@ -41,7 +41,7 @@ loop-less : tie.Need-loop-less Inv-loop μ-loop
 loop-less c = search next-falls
 
 loop-again : tie.Need-loop-again Inv-loop μ-loop
-loop-again c = (search blocks-more, search needs)
+loop-again c = search (needs, blocks-more)
 
 all-there-requires : tie.Need-all-there-requires Inv-loop μ-loop
 all-there-requires c κs = search needs
@@ -52,8 +52,8 @@ same-length-2 c = search needs
 returns-2 : tie.Need-returns-2 Inv-loop μ-loop
 returns-2 c = search going-all
 
-no-place-requires : tie.Need-no-place-requires Inv-loop μ-loop
-no-place-requires c κs = search needs
+missing-blocks-requires : tie.Need-missing-blocks-requires Inv-loop μ-loop
+missing-blocks-requires c κs = search needs
 
 refused-area-requires-2 : tie.Need-refused-area-requires-2 Inv-loop μ-loop
 refused-area-requires-2 c κs = search needs
@@ -83,7 +83,7 @@ read-blocks-spec =
     all-there-requires
     same-length-2
     returns-2
-    no-place-requires
+    missing-blocks-requires
     refused-area-requires-2
     same-length-3
     returns-3)

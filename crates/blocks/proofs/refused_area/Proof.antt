@@ -11,7 +11,7 @@ same-length : tie.Need-same-length
 same-length c = search needs
 
 returns : tie.Need-returns
-returns c = (refl, search area-cleared)
+returns c = (refl, λ l. search area-cleared)
 
 pub refused-area-spec : {M : Type 1} → statement M
 refused-area-spec = tie.close (tie.spec fill-requires same-length returns)

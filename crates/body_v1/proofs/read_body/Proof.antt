@@ -36,8 +36,8 @@ same-length c = search needs
 returns : tie.Need-returns
 returns c = search read-marked
 
-faulty-requires : tie.Need-faulty-requires
-faulty-requires c κs = search needs
+faulty-at-requires : tie.Need-faulty-at-requires
+faulty-at-requires c κs = search needs
 
 returns-2 : tie.Need-returns-2
 returns-2 c = search read-unmarked
@@ -51,8 +51,11 @@ same-length-2 c = search needs
 returns-3 : tie.Need-returns-3
 returns-3 c = search read-plain
 
-faulty-requires-2 : tie.Need-faulty-requires-2
-faulty-requires-2 c κs = search needs
+up-to-requires : tie.Need-up-to-requires
+up-to-requires c κs = search needs
+
+faulty-length-requires : tie.Need-faulty-length-requires
+faulty-length-requires c κs = search needs
 
 returns-4 : tie.Need-returns-4
 returns-4 c = search read-wrong
@@ -72,10 +75,11 @@ read-body-spec =
     unpack-body-requires
     same-length
     returns
-    faulty-requires
+    faulty-at-requires
     returns-2
     spread-out-requires
     same-length-2
     returns-3
-    faulty-requires-2
+    up-to-requires
+    faulty-length-requires
     returns-4)

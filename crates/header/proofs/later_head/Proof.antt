@@ -6,6 +6,9 @@ use Rattle.header.proofs.later_head.Tie as tie
 header-length-requires : tie.Need-header-length-requires
 header-length-requires c κs = search needs
 
+refused-head-requires : tie.Need-refused-head-requires
+refused-head-requires c κs = search needs
+
 returns : tie.Need-returns
 returns c = search later-short
 
@@ -17,6 +20,9 @@ mode-of-requires c κs = search needs
 
 enum-told : tie.Need-enum-told
 enum-told c = search needs
+
+refused-head-requires-2 : tie.Need-refused-head-requires-2
+refused-head-requires-2 c κs = search needs
 
 enum-known-found : tie.Need-enum-known-found
 enum-known-found c = search needs
@@ -35,10 +41,12 @@ later-head-spec =
     tie.close
     (tie.spec
     header-length-requires
+    refused-head-requires
     returns
     shared-slice-read-mode-of
     mode-of-requires
     enum-told
+    refused-head-requires-2
     enum-known-found
     mode-head-requires
     returns-2

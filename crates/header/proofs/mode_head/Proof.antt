@@ -6,6 +6,9 @@ use Rattle.header.proofs.mode_head.Tie as tie
 shared-slice-read-if1 : tie.Need-shared-slice-read-if1
 shared-slice-read-if1 c = search inside-29
 
+refused-head-requires : tie.Need-refused-head-requires
+refused-head-requires c κs = search needs
+
 returns : tie.Need-returns
 returns c = search mode-im
 
@@ -35,6 +38,7 @@ mode-head-spec =
     tie.close
     (tie.spec
     shared-slice-read-if1
+    refused-head-requires
     returns
     enum-told
     enum-told-2

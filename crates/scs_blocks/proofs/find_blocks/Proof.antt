@@ -24,6 +24,9 @@ returns c = search found-end
 sub-left : tie.Need-sub-left Inv-loop μ-loop
 sub-left c = search needs
 
+in-block-requires : tie.Need-in-block-requires Inv-loop μ-loop
+in-block-requires c κs = search needs
+
 returns-2 : tie.Need-returns-2 Inv-loop μ-loop
 returns-2 c = search cut-head
 
@@ -32,6 +35,9 @@ add-size-at c = search needs
 
 size-at-requires : tie.Need-size-at-requires Inv-loop μ-loop
 size-at-requires c κs = search needs
+
+in-block-requires-2 : tie.Need-in-block-requires-2 Inv-loop μ-loop
+in-block-requires-2 c κs = search needs
 
 returns-3 : tie.Need-returns-3 Inv-loop μ-loop
 returns-3 c = search cut-data
@@ -42,12 +48,15 @@ part-of-requires c κs = search needs
 is-there-requires : tie.Need-is-there-requires Inv-loop μ-loop
 is-there-requires c κs = search needs
 
+in-block-requires-3 : tie.Need-in-block-requires-3 Inv-loop μ-loop
+in-block-requires-3 c κs = search needs
+
 returns-4 : tie.Need-returns-4 Inv-loop μ-loop
 returns-4 c =
-    let b = c .before .before .before in
+    let b = c .before .before .before .before in
     let l = b .before .before .before in
-    seen-twice _ _ _ _ (l .before .before .before .loop .inv) (search needs) (l .if1 .left) (search needs) _ (b .before .size-at .ensures) (search needs) _ (c .before .before .part-of .ensures) _
-    (c .before .is-there .ensures) (c .if4 .taken)
+    seen-twice _ _ _ _ (l .before .before .before .loop .inv) (search needs) (l .if1 .left) (search needs) _ (b .before .size-at .ensures) (search needs) _ (c .before .before .before .part-of .ensures) _
+    (c .before .before .is-there .ensures) _ (c .before .if4 .taken) (c .in-block3 .ensures)
 
 add-note : tie.Need-add-note Inv-loop μ-loop
 add-note c = search needs
@@ -80,12 +89,15 @@ find-blocks-spec =
     shared-slice-read-number
     returns
     sub-left
+    in-block-requires
     returns-2
     add-size-at
     size-at-requires
+    in-block-requires-2
     returns-3
     part-of-requires
     is-there-requires
+    in-block-requires-3
     returns-4
     add-note
     note-requires

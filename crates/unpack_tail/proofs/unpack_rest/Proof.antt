@@ -1,6 +1,6 @@
+use Prim.Native.Nat.{_-_}
 use borrow.Author.Needs.{needs}
 use lib.ListN.{length, take, drop}
-use Prim.Native.Nat.{_-_}
 use Rattle.packed.specs.Packed.{before, unpacked}
 use Rattle.packed.proofs.Frame.{Frame, frame-from}
 use Rattle.unpack_tail.proofs.UnpackSteps.{going-plain, going-run, full-plain, full-run, cut-into, zero-into, good-into, wrong-into}
@@ -119,6 +119,9 @@ same-length-5 c = search needs
 returns-5 : tie.Need-returns-5 Inv-loop μ-loop
 returns-5 c = search good-into
 
+up-to-requires : tie.Need-up-to-requires Inv-loop μ-loop
+up-to-requires c κs = search needs
+
 refused-part-requires-5 : tie.Need-refused-part-requires-5 Inv-loop μ-loop
 refused-part-requires-5 c κs = search needs
 
@@ -169,6 +172,7 @@ unpack-rest-spec =
     loop-again-2
     same-length-5
     returns-5
+    up-to-requires
     refused-part-requires-5
     same-length-6
     returns-6)

@@ -1,4 +1,4 @@
-use Rattle.z80read.proofs.FileRead.{read-length, read-refused, read-readable, is-blank, read-on}
+use Rattle.z80read.proofs.FileRead.{read-length, read-refused, read-readable, is-lent, read-on}
 use borrow.Author.Needs.{needs}
 use Rattle.z80read.proofs.read.Statement.{statement}
 use Rattle.z80read.proofs.read.Tie as tie
@@ -24,9 +24,6 @@ read-head-requires c κs = search needs
 enum-known-head : tie.Need-enum-known-head
 enum-known-head c = search needs
 
-no-place-requires-2 : tie.Need-no-place-requires-2
-no-place-requires-2 c κs = search needs
-
 refused-file-requires-2 : tie.Need-refused-file-requires-2
 refused-file-requires-2 c κs = search needs
 
@@ -40,7 +37,7 @@ enum-known-head-2 : tie.Need-enum-known-head-2
 enum-known-head-2 c = search needs
 
 read-on-requires : tie.Need-read-on-requires
-read-on-requires c κs = (search read-readable, (search needs, search is-blank))
+read-on-requires c κs = (search read-readable, (search needs, search is-lent))
 
 same-length-3 : tie.Need-same-length-3
 same-length-3 c = search needs
@@ -59,7 +56,6 @@ read-spec =
     returns
     read-head-requires
     enum-known-head
-    no-place-requires-2
     refused-file-requires-2
     same-length-2
     returns-2

@@ -1,0 +1,11 @@
+-- What is claimed of explaining beyond the functions' contracts.
+use Prim.Native.Nat.{ℕ}
+use mathlib.Core.Path.{_≡_}
+use mathlib.Core.List.{List}
+use Rattle.z80read.specs.Read.{readOf}
+use Rattle.z80explain.specs.Explain.{explainOf}
+
+pub record Theorems : Type 0 where
+  -- "reading into a right-sized area gives this number", and this place
+  pub explained-answer : (s : List ℕ) → explainOf s .answer ≡ readOf s 131072 .answer
+  pub explained-place : (s : List ℕ) → explainOf s .place ≡ readOf s 131072 .place
