@@ -6,20 +6,23 @@
 
 enum { BLOCKS = 512, FILES_ROOM = 8 << 20, PAGE = 16384 };
 
-uint32_t packing_unpack(const uint8_t *, size_t, uint8_t *, size_t, uint64_t *);
-/* before version 400 it tells no place */
+uint32_t packing_unpack(const uint8_t *, size_t, uint8_t *, size_t, uint64_t *, uint64_t *);
+/* before version 400 it tells no place, before 500 no length */
 #if OTHER_VERSION < 400
 uint32_t other_packing_unpack(const uint8_t *, size_t, uint8_t *, size_t);
 #define OTHER_UNPACK(src, length) other_packing_unpack(src, length, page, PAGE)
-#else
+#elif OTHER_VERSION < 500
 uint32_t other_packing_unpack(const uint8_t *, size_t, uint8_t *, size_t, uint64_t *);
 #define OTHER_UNPACK(src, length) other_packing_unpack(src, length, page, PAGE, &place)
+#else
+uint32_t other_packing_unpack(const uint8_t *, size_t, uint8_t *, size_t, uint64_t *, uint64_t *);
+#define OTHER_UNPACK(src, length) other_packing_unpack(src, length, page, PAGE, &place, &found)
 #endif
 
 static uint8_t all[FILES_ROOM], page[PAGE];
 static struct packed_block { const uint8_t *data; size_t length; } blocks[BLOCKS];
 static int count;
-static uint64_t place;
+static uint64_t place, found;
 
 /* The packed blocks of a v2 or v3 file that both unpack to a page. */
 static void take_blocks(const uint8_t *file, size_t length)
@@ -31,7 +34,7 @@ static void take_blocks(const uint8_t *file, size_t length)
         if (plain) size = PAGE;
         if (length - at - 3 < size) return;
         if (plain || count == BLOCKS) continue;
-        if (packing_unpack(file + at + 3, size, page, PAGE, &place) || OTHER_UNPACK(file + at + 3, size)) continue;
+        if (packing_unpack(file + at + 3, size, page, PAGE, &place, &found) || OTHER_UNPACK(file + at + 3, size)) continue;
         blocks[count++] = (struct packed_block){ file + at + 3, size };
     }
 }
@@ -40,7 +43,7 @@ static double unpack_seconds(int ours)
 {
     double start = now();
     for (int i = 0; i < count; i++) {
-        if (ours) packing_unpack(blocks[i].data, blocks[i].length, page, PAGE, &place);
+        if (ours) packing_unpack(blocks[i].data, blocks[i].length, page, PAGE, &place, &found);
         else OTHER_UNPACK(blocks[i].data, blocks[i].length);
     }
     return now() - start;

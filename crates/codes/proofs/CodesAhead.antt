@@ -21,12 +21,16 @@ use Rattle.stores.proofs.StoredBytes.{at-block, block-long, put-none, put-more}
 use Rattle.packed.proofs.Frame.{Verbatim, verbatim}
 use Rattle.codes.proofs.Escape.{escape-there}
 
-pub copied-16 : (s : List ℕ) (i : ℕ) (d : List ℕ) (o : ℕ) (b n d′ : List ℕ) (c : List Bool) (m : ℕ) → i + 17 ≤ length s → o + 16 ≤ length d → b ≡ take 16 (drop i s)
-    → n ≡ take 16 (drop (i + 1) s) → d′ ≡ put d o b → Flagged (λ j. escape (getD b j 0) (getD n j 0)) c 16 → m ≡ weight c → Copied16 s i d o m d′
-copied-16 s i d o b n d′ c m hs hd eb en ed g em = record { seen = seen-flags (escapeAt s) _ i c m g em at; stored = ed ∙ ap (put d o) eb }
+pub flagged-16 : (s : List ℕ) (i : ℕ) (b n : List ℕ) (c : List Bool) (m : ℕ) → b ≡ take 16 (drop i s) → n ≡ take 16 (drop (i + 1) s)
+    → Flagged (λ j. escape (getD b j 0) (getD n j 0)) c 16 → m ≡ weight c → Seen (escapeAt s) i 16 m
+flagged-16 s i b n c m eb en g em = seen-flags (escapeAt s) _ i c m g em at
   where
     at : (j : ℕ) → j < 16 → escape (getD b j 0) (getD n j 0) ≡ escapeAt s (i + j)
     at j h = (λ z. escape (at-block s b i j eb h z) (at-block s n (i + 1) j en h z)) ∙ ap (λ (x : ℕ). escape (getD s (i + j) 0) (getD s x 0)) (omega arith)
+
+pub copied-16 : (s : List ℕ) (i : ℕ) (d : List ℕ) (o : ℕ) (b n d′ : List ℕ) (c : List Bool) (m : ℕ) → b ≡ take 16 (drop i s)
+    → n ≡ take 16 (drop (i + 1) s) → d′ ≡ put d o b → Flagged (λ j. escape (getD b j 0) (getD n j 0)) c 16 → m ≡ weight c → Copied16 s i d o m d′
+copied-16 s i d o b n d′ c m eb en ed g em = record { seen = flagged-16 s i b n c m eb en g em; stored = ed ∙ ap (put d o) eb }
 
 -- bytes that are no ED ED stand for themselves
 plain-bytes : (s : List ℕ) (i k : ℕ) → i + k ≤ length s → ((j : ℕ) → j < k → escapeAt s (i + j) ≡ false) → Verbatim unpacked s i k
@@ -125,3 +129,17 @@ module _ (s : List ℕ) (i : ℕ) (d₀ : List ℕ) (o seen m : ℕ) (d : List �
       go : (t : Bool) → ltb (trailingZeros 64 seen) 16 ≡ t → NextCode s i seen m
       go true e = near-code (ltb-true (trailingZeros 64 seen) 16 e)
       go false e = far-code (ltb-false (trailingZeros 64 seen) 16 e)
+
+-- of 16 places: none is ED ED, or the bytes before the first one stand for themselves
+module _ (s : List ℕ) (i m : ℕ) (hs : i + 17 ≤ length s) (g : Seen (escapeAt s) i 16 m) where
+  pub none-of-16 : trailingZeros 64 m ≡ 64 → Verbatim unpacked s i 16
+  none-of-16 e = go (eqb m 0) refl
+    where
+      go : (t : Bool) → eqb m 0 ≡ t → Verbatim unpacked s i 16
+      go true z = plain-bytes s i 16 (omega arith) (seen-clear (escapeAt s) i 16 m g (eqb-true m 0 z))
+      go false z = let x : ⊥ = omega (arith, seen-first (escapeAt s) i 16 m g (omega arith) (eqb-false m 0 z) .inside) in absurd x
+
+  pub first-of-16 : (trailingZeros 64 m ≡ 64 → ⊥) → (trailingZeros 64 m < 16) × (Verbatim unpacked s i (trailingZeros 64 m) × (true ≡ escapeAt s (i + trailingZeros 64 m)))
+  first-of-16 h =
+      let f = seen-first (escapeAt s) i 16 m g (omega arith) (λ z. h (ap (trailingZeros 64) z ∙ trailing-of-zero 64)) in
+      (f .inside, (plain-bytes s i _ (omega (arith, f .inside)) (f .before), sym (f .here)))

@@ -2,7 +2,7 @@
 ghost use Prim.Native.Nat.{_+_, _≤_, _<_};
 ghost use mathlib.Core.Path.{_≡_};
 ghost use lib.ListN.{length, getD};
-ghost use Rattle.flags.specs.Places.{Flagged, Ahead};
+ghost use Rattle.flags.specs.Places.{Flagged, Seen, Ahead};
 ghost use Rattle.packed.specs.Packed.{escape};
 ghost use Rattle.codes.specs.Inner.{escapeAt, Looked, Copied16};
 
@@ -34,6 +34,16 @@ fn codes16(src: &[u8], i: usize, dst: &mut [u8], o: usize) -> u64
     let block = slices::part16(src, i);
     let next = slices::part16(src, i + 1);
     slices::put16(dst, o, &block);
+    flags::mask(escapes(block, next))
+}
+
+// Flags for ED ED in 16 bytes of src from i on.
+pub fn escapes_at(src: &[u8], i: usize) -> u64
+    requires { ⌜ i + 17 ≤ length (now src) ⌝ }
+    ensures { λ r. ⌜ Seen (escapeAt (now (src .entry))) i 16 r ⌝ }
+{
+    let block = slices::part16(src, i);
+    let next = slices::part16(src, i + 1);
     flags::mask(escapes(block, next))
 }
 

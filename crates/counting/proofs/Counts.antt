@@ -2,15 +2,14 @@
 use Prim.Native.Nat.{ℕ, _+_, _<_}
 use native.Mathlib.Omega.{arith}
 use mathlib.Core.Path.{_≡_, refl, sym, ap, _∙_}
-use mathlib.Core.List.{List, []}
-use lib.ListN.{length, drop}
+use mathlib.Core.List.{List}
+use lib.ListN.{length}
 use borrow.Author.Tests.{eq-eqb, ne-eqb}
-use Rattle.packed.specs.Packed.{Found, malformed, bytes, before, unpacked}
+use Rattle.packed.specs.Packed.{Found, malformed, bytes, unpacked}
 use Rattle.packed.specs.Unpacking.{counted, answerOf}
 use Rattle.packed.specs.Inner.{over}
 use Rattle.packed.specs.declared.Unpacked.{Unpacked}
 use Rattle.packed.specs.declared.Unpacked.the-variants.{Good, WrongLength, Malformed}
-use Rattle.packed.proofs.Frame.{before-nil}
 
 -- what each answer of counting becomes
 abbrev Becomes : ℕ → Found → Unpacked → Type 0
@@ -23,9 +22,9 @@ over-becomes due (malformed i) h = refl
 over-becomes due (bytes xs) h =
     (λ e. rw (eq-eqb (length xs) due (omega arith)), λ e. rw (ne-eqb (length xs) due (λ q. e (omega arith))) (ap WrongLength (omega arith)))
 
-module _ (s : List ℕ) (due : ℕ) (r : Unpacked) (h : due < 65536) (e : r ≡ over 0 (before 0 [] (unpacked (drop 0 s)))) where
+module _ (s : List ℕ) (due : ℕ) (r : Unpacked) (h : due < 65536) (e : r ≡ over 0 (unpacked s)) where
   counted-becomes : Becomes due (unpacked s) r
-  counted-becomes = rw (e, before-nil (unpacked s)) (over-becomes due (unpacked s) h)
+  counted-becomes = rw e (over-becomes due (unpacked s) h)
 
   pub never-good : r ≡ Good → Good ≡ answerOf (unpacked s) due
   never-good q = absurd (rw q at counted-becomes)

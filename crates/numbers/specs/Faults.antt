@@ -53,3 +53,15 @@ pub record NamedPlace (number place size : ℕ) : Type 0 where
   pub none : isPlaced number ≡ false → place ≡ 0
   pub some : isPlaced number ≡ true → 0 < place
   pub at-end : number ≡ 14 → place ≡ size
+
+-- the numbers that are given with two figures
+abbrev pub isFigured : ℕ → Bool
+isFigured n = eqb n 2 || eqb n 6 || eqb n 12 || eqb n 13
+
+-- what is given with a number of a .Z80 file: a block exactly where a place is named, so "0 in the header and for 13"; figures only where the
+-- number has them, "otherwise 0, 0"; a length "counted no further than 65,536"
+pub record NamedFigures (number block found due : ℕ) : Type 0 where
+  pub no-block : isPlaced number ≡ false → block ≡ 0
+  pub some-block : isPlaced number ≡ true → 0 < block
+  pub no-figures : isFigured number ≡ false → (found ≡ 0) × (due ≡ 0)
+  pub few : number ≡ 12 → found ≤ 65536

@@ -63,9 +63,9 @@ pub record Resting (s : List ℕ) (from o i n : ℕ) : Type 0 where
 pub resting-none : (s : List ℕ) (from o n : ℕ) → from ≤ length s → n ≡ counted o → Resting s from o from n
 resting-none s from o n h e = record { reach = h; few = omega arith; same = over-counted o (before from [] (unpacked (drop from s))) ∙ ap (overAt s from) (sym e) }
 
-module _ (s : List ℕ) (from o i n : ℕ) (r : Bool) (g : Resting s from o i n) (e : r ≡ escapeAt s i) where
+module _ (s : List ℕ) (from o i n : ℕ) (g : Resting s from o i n) where
   -- k bytes on, which stand for xs
-  resting-on : (k m : ℕ) (xs : List ℕ) → unpacked (drop i s) ≡ before k xs (unpacked (drop (i + k) s)) → i + k ≤ length s → m ≡ counted (n + length xs) → Resting s from o (i + k) m
+  pub resting-on : (k m : ℕ) (xs : List ℕ) → unpacked (drop i s) ≡ before k xs (unpacked (drop (i + k) s)) → i + k ≤ length s → m ≡ counted (n + length xs) → Resting s from o (i + k) m
   resting-on k m xs q h c =
       record {
         reach = h;
@@ -73,12 +73,13 @@ module _ (s : List ℕ) (from o i n : ℕ) (r : Bool) (g : Resting s from o i n)
         same = g .same ∙ ap (λ (u : Found). over n (before i [] u)) q ∙ over-before i k n xs (unpacked (drop (i + k) s)) ∙ ap (overAt s (i + k)) (sym c);
       }
 
+module _ (s : List ℕ) (from o i n : ℕ) (r : Bool) (g : Resting s from o i n) (e : r ≡ escapeAt s i) where
   pub resting-plain : (m : ℕ) → i < length s → r ≡ false → m ≡ counted (n + 1) → Resting s from o (i + 1) m
-  resting-plain m h f c = resting-on 1 m (getD s i 0 ∷ []) (step-plain s i r e h f) (omega arith) c
+  resting-plain m h f c = resting-on s from o i n g 1 m (getD s i 0 ∷ []) (step-plain s i r e h f) (omega arith) c
 
   pub resting-run : (k m : ℕ) → i + 4 ≤ length s → r ≡ true → k ≡ getD s (i + 2) 0 → (k ≡ 0 → ⊥) → m ≡ counted (n + k) → Resting s from o (i + 4) m
   resting-run k m h t q z c =
-      resting-on 4 m (replicate k (getD s (i + 3) 0))
+      resting-on s from o i n g 4 m (replicate k (getD s (i + 3) 0))
       (step-run s i r e h t ∙ ap (λ (x : ℕ). run x (getD s (i + 3) 0) (unpacked (drop (i + 4) s))) (sym q) ∙ rw (ne-eqb k 0 z)) h
       (c ∙ ap (λ (x : ℕ). counted (n + x)) (sym (length-replicate k (getD s (i + 3) 0))))
 

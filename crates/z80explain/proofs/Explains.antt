@@ -9,15 +9,20 @@ use Rattle.pages.specs.declared.Model.{Model}
 use Rattle.spectrum.specs.declared.Attachment.{Attachment}
 use Rattle.spectrum.specs.declared.Machine.{Machine}
 use Rattle.numbers.specs.declared.FileFault.{FileFault}
+use Rattle.numbers.specs.Numbers.{numberOf}
+use Rattle.numbers.specs.Faults.{NamedFigures}
+use Rattle.numbers.proofs.FaultPlaces.{no-figures-at-all}
 use Rattle.header.specs.declared.Version.{Version}
 use Rattle.header.specs.declared.Head.{Head}
 use Rattle.header.specs.declared.Head.the-variants.{Header}
 use Rattle.header.specs.Heads.{headerLength, headOf}
-use Rattle.header.proofs.AcceptedHeads.{opens}
+use Rattle.header.proofs.AcceptedHeads.{opens, head-unplaced}
 use Rattle.header_read.specs.Reading.{machineOf}
 use Rattle.blocks.specs.Blocks.{BodyResult, bodyRefused, bodyRead, Lent, ReadsBody}
 use Rattle.blocks.specs.declared.BodyAnswer.{BodyAnswer}
 use Rattle.blocks.specs.declared.BodyAnswer.the-variants.{Whole, Faulty}
+use Rattle.blocks.proofs.BlockPlaces.{BodyPlaced}
+use Rattle.z80read.proofs.ReadPlaces.{memory-placed}
 use Rattle.z80read.specs.Read.{memoryInto, afterBody, afterHead, readOf}
 use Rattle.z80explain.specs.declared.Explained.{Explained}
 use Rattle.z80explain.specs.Explain.{nothingWrong, told, toldBody, toldHead, explainOf}
@@ -80,3 +85,20 @@ explained-place s = go (headOf s)
     go : (h : Head) → toldHead h s .place ≡ afterHead h s 131072 .place
     go (Head.Refused fault) = refl
     go (Header v model a) = after-place (memoryInto v model (blank 131072) s) (machineOf v model a s) 131072
+
+-- the block and the figures that are told
+abbrev ToldFigures : Explained → Type 0
+ToldFigures o = NamedFigures (numberOf (o .answer)) (o .block) (o .found) (o .due)
+
+body-figures : (size : ℕ) (x : BodyResult) → BodyPlaced size x → ToldFigures (toldBody x)
+body-figures size (bodyRefused fault) p = p .1
+body-figures size (bodyRead area) p = no-figures-at-all 0 refl
+
+pub explained-figures : (s : List ℕ) → ToldFigures (explainOf s)
+unfolding explainOf
+explained-figures s = go (headOf s) refl
+  where
+    go : (h : Head) → headOf s ≡ h → ToldFigures (toldHead h s)
+    go (Head.Refused fault) e = head-unplaced s fault e .1
+    go (Header v model a) e =
+        body-figures (length s) (memoryInto v model (blank 131072) s) (memory-placed v model (blank 131072) s (opens s (headOf s) v model a refl e .readable .long))

@@ -33,17 +33,17 @@ ResultPlaced s o = NamedPlace (numberOf (o .answer)) (o .place) (length s)
 from-header : (s : List ℕ) (k : ℕ) (x : BodyResult) → k ≤ length s → BodyPlaced (k + length (drop k s)) x → BodyPlaced (length s) x
 from-header s k x h p = let e : k + length (drop k s) ≡ length s = omega (arith, length-drop k s) in subst (λ (n : ℕ). BodyPlaced n x) e p
 
-memory-placed : (v : Version) (model : Model) (area s : List ℕ) → headerLength v ≤ length s → BodyPlaced (length s) (memoryInto v model area s)
+pub memory-placed : (v : Version) (model : Model) (area s : List ℕ) → headerLength v ≤ length s → BodyPlaced (length s) (memoryInto v model area s)
 memory-placed V1 model area s h = from-header s 30 (memoryInto V1 model area s) h (v1-placed (bitAt (byte12Of s) 32) area 30 (drop 30 s) (omega arith))
 memory-placed V2 model area s h = from-header s 55 (memoryInto V2 model area s) h (blocks-placed model area 55 (drop 55 s) (omega arith))
 memory-placed V3 model area s h = from-header s 86 (memoryInto V3 model area s) h (blocks-placed model area 86 (drop 86 s) (omega arith))
 
 after-body : (s : List ℕ) (x : BodyResult) (m : Machine) (n : ℕ) → BodyPlaced (length s) x → ResultPlaced s (afterBody x m n)
-after-body s (bodyRefused fault) m n p = p
+after-body s (bodyRefused fault) m n p = p .0
 after-body s (bodyRead area) m n p = nowhere 0 (length s) refl
 
 after-head : (s : List ℕ) (n : ℕ) (x : Head) → headOf s ≡ x → ResultPlaced s (afterHead x s n)
-after-head s n (Head.Refused fault) e = head-unplaced s fault e
+after-head s n (Head.Refused fault) e = head-unplaced s fault e .0
 after-head s n (Header v model a) e =
     after-body s (memoryInto v model (blank 131072) s) (machineOf v model a s) n (memory-placed v model (blank 131072) s (opens s (headOf s) v model a refl e .readable .long))
 

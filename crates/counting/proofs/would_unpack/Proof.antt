@@ -3,8 +3,8 @@ use borrow.Author.Needs.{needs}
 use Rattle.counting.proofs.would_unpack.Statement.{statement}
 use Rattle.counting.proofs.would_unpack.Tie as tie
 
-rest-requires : tie.Need-rest-requires
-rest-requires c κs = search needs
+count-requires : tie.Need-count-requires
+count-requires c κs = search needs
 
 enum-told : tie.Need-enum-told
 enum-told c = search needs
@@ -31,7 +31,7 @@ pub would-unpack-spec : {M : Type 1} → statement M
 would-unpack-spec =
     tie.close
     (tie.spec
-    rest-requires
+    count-requires
     enum-told
     enum-known-i
     enum-known-n
