@@ -54,10 +54,10 @@ static inline struct refused_at z80_cut(const uint8_t *file, size_t length)
 }
 
 /* What snap_z80_explain gives beside its number; as the offset, each is OFFSET_DIRT before a call. */
-struct explained {
+struct figures_told {
     uint64_t offset, block, found, due;
 };
-static const struct explained explained_dirt = {OFFSET_DIRT, OFFSET_DIRT, OFFSET_DIRT, OFFSET_DIRT};
+static const struct figures_told figures_dirt = {OFFSET_DIRT, OFFSET_DIRT, OFFSET_DIRT, OFFSET_DIRT};
 
 /* How many blocks of a file begin at an offset or before it; a v1 body is one. Those before the last of them are whole. */
 static inline uint64_t blocks_up_to(const uint8_t *file, size_t length, uint64_t offset)
@@ -71,7 +71,7 @@ static inline uint64_t blocks_up_to(const uint8_t *file, size_t length, uint64_t
 }
 
 /* Whether found and due go with the number. */
-static inline int figures_fit(uint32_t number, struct explained given, const uint8_t *file, size_t length)
+static inline int figures_fit(uint32_t number, struct figures_told given, const uint8_t *file, size_t length)
 {
     uint64_t found = given.found, due = given.due;
     switch (number) {
@@ -90,7 +90,7 @@ static inline int figures_fit(uint32_t number, struct explained given, const uin
 }
 
 /* Whether all that is explained goes with what reading gives. */
-static inline int is_explained(struct refused_at due, struct explained given, const uint8_t *file, size_t length)
+static inline int is_explained(struct refused_at due, struct figures_told given, const uint8_t *file, size_t length)
 {
     uint64_t block = has_offset(due.number) ? blocks_up_to(file, length, due.offset) : 0;
     return given.offset == due.offset && given.block == block && figures_fit(due.number, given, file, length);

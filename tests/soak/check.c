@@ -50,7 +50,7 @@ void expect_read(const struct server_slot *slot, uint32_t number, struct refused
 /* The file explained: number and offset as they are read, and figures that go with them. */
 void expect_explained(const uint8_t *file, size_t length, struct refused_at due)
 {
-    struct explained given = explained_dirt;
+    struct figures_told given = figures_dirt;
     expect("explain", snap_z80_explain(file, length, &given.offset, &given.block, &given.found, &given.due), due.number);
     expect("whether what is explained fits", (uint64_t)is_explained(due, given, file, length), 1);
     bytes_checked += sizeof given;

@@ -54,7 +54,7 @@ uint32_t make_call(struct lent_buffers *lent, const struct tried_call *call)
         return snap_z80_read(call->file, call->file_len, lent->area, call->area_len, lent->header, call->header_len,
                              &lent->place);
     case EXPLAIN:
-        lent->explained = explained_dirt;
+        lent->explained = figures_dirt;
         return snap_z80_explain(call->file, call->file_len, &lent->explained.offset, &lent->explained.block,
                                 &lent->explained.found, &lent->explained.due);
     case WRITE:

@@ -28,7 +28,7 @@ struct lent_buffers {
         uint16_t pair, offset;
     } figures;
     uint64_t standing, total, length, start, place; /* place: the offset that a read gives */
-    struct explained explained;
+    struct figures_told explained;
 };
 
 /* A call: its function, the file that is read or explained, how much of each buffer is lent, and what is asked. */

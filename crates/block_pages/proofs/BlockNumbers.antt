@@ -104,8 +104,8 @@ pub record SeenSoFar (seen : List Bool) (n k : ℕ) : Type 0 where
   pub few : n ≤ k
   pub rest : n + pagesSeen (drop k seen) ≡ pagesSeen seen
 
-pub seen-none : (seen : List Bool) → SeenSoFar seen 0 0
-seen-none seen = record { reach = omega arith; few = omega arith; rest = omega arith }
+pub none-counted : (seen : List Bool) → SeenSoFar seen 0 0
+none-counted seen = record { reach = omega arith; few = omega arith; rest = omega arith }
 
 seen-one : (seen : List Bool) (k : ℕ) → k < length seen → pagesSeen (drop k seen) ≡ choose (getD seen k false) 1 0 + pagesSeen (drop (suc k) seen)
 seen-one [] k h = absurd (not-suc-le-zero h)
@@ -121,5 +121,5 @@ module _ (seen : List Bool) (n k : ℕ) (g : SeenSoFar seen n k) where
   seen-absent h l e = let q = rw e at (seen-one seen k (omega arith)) in
       let z : k + 1 ≡ suc k = omega arith in record { reach = omega arith; few = omega (arith, g .few); rest = rw z (omega (arith, g .rest)) }
 
-  pub seen-all : 8 ≤ k → length seen ≡ 8 → (n ≡ pagesSeen seen) × (n ≤ 8)
-  seen-all h l = let q : pagesSeen (drop k seen) ≡ 0 = ap pagesSeen (drop-of-length-le seen {i = k} (omega arith)) in (omega (arith, g .rest), omega (arith, g .few, g .reach))
+  pub all-counted : 8 ≤ k → length seen ≡ 8 → (n ≡ pagesSeen seen) × (n ≤ 8)
+  all-counted h l = let q : pagesSeen (drop k seen) ≡ 0 = ap pagesSeen (drop-of-length-le seen {i = k} (omega arith)) in (omega (arith, g .rest), omega (arith, g .few, g .reach))

@@ -8,20 +8,20 @@ use lib.ListN.{length, replicate}
 use borrow.Author.Tests.{eqb-true}
 use Rattle.slices.specs.Choose.{choose}
 use Rattle.packed.specs.Packed.{Found, malformed, bytes}
-use Rattle.packed.specs.Unpacking.{Unpacks, counted, answerOf, leftBy}
+use Rattle.packed.specs.Unpacking.{Unpacks, lengthCounted, answerOf, leftBy}
 use Rattle.packed.specs.declared.Unpacked.{Unpacked}
 use Rattle.packed.specs.declared.Unpacked.the-variants.{Good, WrongLength, Malformed}
 
 abbrev UnpackedSays : Found → ℕ → List ℕ → Unpacked → Type 0
 UnpackedSays u m d Good = (u ≡ bytes d) × (length d ≡ m)
-UnpackedSays u m d (WrongLength n) = (xs : List ℕ) × ((u ≡ bytes xs) × ((eqb (length xs) m ≡ false) × (n ≡ counted (length xs))))
+UnpackedSays u m d (WrongLength n) = (xs : List ℕ) × ((u ≡ bytes xs) × ((eqb (length xs) m ≡ false) × (n ≡ lengthCounted (length xs))))
 UnpackedSays u m d (Malformed i) = u ≡ malformed i
 
 unpacked-says : (u : Found) (m : ℕ) → UnpackedSays u m (leftBy u m) (answerOf u m)
 unpacked-says (malformed i) m = refl
 unpacked-says (bytes xs) m = go (eqb (length xs) m) refl
   where
-    go : (b : Bool) → eqb (length xs) m ≡ b → UnpackedSays (bytes xs) m (choose b xs (replicate m 0)) (choose b Good (WrongLength (counted (length xs))))
+    go : (b : Bool) → eqb (length xs) m ≡ b → UnpackedSays (bytes xs) m (choose b xs (replicate m 0)) (choose b Good (WrongLength (lengthCounted (length xs))))
     go true e = (refl, eqb-true _ _ e)
     go false e = (xs, (refl, (e, refl)))
 
@@ -35,7 +35,7 @@ module _ (u : Found) (n m : ℕ) (r : Unpacked) (d : List ℕ) (h : Unpacks u n 
   pub malformed-is : (i : ℕ) → r ≡ Malformed i → u ≡ malformed i
   malformed-is i e = rw e at told-here
 
-  pub wrong-is : (k : ℕ) → r ≡ WrongLength k → (xs : List ℕ) × ((u ≡ bytes xs) × ((eqb (length xs) m ≡ false) × (k ≡ counted (length xs))))
+  pub wrong-is : (k : ℕ) → r ≡ WrongLength k → (xs : List ℕ) × ((u ≡ bytes xs) × ((eqb (length xs) m ≡ false) × (k ≡ lengthCounted (length xs))))
   wrong-is k e = rw e at told-here
 
 -- a refused part is all zero
@@ -43,7 +43,7 @@ left-zeros : (u : Found) (m : ℕ) → (answerOf u m ≡ Good → ⊥) → leftB
 left-zeros (malformed i) m f = refl
 left-zeros (bytes xs) m f = go (eqb (length xs) m) f
   where
-    go : (b : Bool) → (choose b Good (WrongLength (counted (length xs))) ≡ Good → ⊥) → choose b xs (replicate m 0) ≡ replicate m 0
+    go : (b : Bool) → (choose b Good (WrongLength (lengthCounted (length xs))) ≡ Good → ⊥) → choose b xs (replicate m 0) ≡ replicate m 0
     go true f = absurd (f refl)
     go false f = refl
 

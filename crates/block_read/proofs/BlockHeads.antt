@@ -11,7 +11,7 @@ use lib.Seq.{getD-drop, drop-drop, take-length}
 use borrow.Author.Tests.{lt-ltb, le-ltb, ltb-true, ltb-false, eq-eqb, ne-eqb}
 use Rattle.slices.specs.Choose.{choose}
 use Rattle.packed.specs.Packed.{unpacked}
-use Rattle.packed.specs.Unpacking.{Unpacks, counted, answerOf}
+use Rattle.packed.specs.Unpacking.{Unpacks, lengthCounted, answerOf}
 use Rattle.packed.specs.declared.Unpacked.{Unpacked}
 use Rattle.packed.specs.declared.Unpacked.the-variants.{Good, WrongLength}
 use Rattle.pages.specs.declared.Model.{Model}
@@ -131,7 +131,7 @@ fills-plain plain src before after e l q =
       memory = rw (e, eq-eqb _ _ l) (q ∙ rw (take-length src, drop-of-length-le before {i = length src} (omega arith), append-nil));
     }
 
-pub fills-other : (plain : Bool) (src before after : List ℕ) (n : ℕ) → plain ≡ true → (length src ≡ length before → ⊥) → n ≡ counted (length src)
+pub fills-other : (plain : Bool) (src before after : List ℕ) (n : ℕ) → plain ≡ true → (length src ≡ length before → ⊥) → n ≡ lengthCounted (length src)
     → after ≡ replicate (length before) 0 → Fills plain src before after (WrongLength n)
 fills-other plain src before after n e l c q = record { answer = rw (e, ne-eqb _ _ l) (ap WrongLength c); memory = rw (e, ne-eqb _ _ l) q }
 
@@ -143,7 +143,7 @@ module _ (plain : Bool) (src : List ℕ) (due : ℕ) where
   pub would-plain : plain ≡ true → length src ≡ due → Good ≡ answerOf (contents plain src) due
   would-plain e l = rw (e, eq-eqb _ _ l)
 
-  pub would-other : (n : ℕ) → plain ≡ true → (length src ≡ due → ⊥) → n ≡ counted (length src) → WrongLength n ≡ answerOf (contents plain src) due
+  pub would-other : (n : ℕ) → plain ≡ true → (length src ≡ due → ⊥) → n ≡ lengthCounted (length src) → WrongLength n ≡ answerOf (contents plain src) due
   would-other n e l c = rw (e, ne-eqb _ _ l) (ap WrongLength c)
 
   pub would-packed : (r : Unpacked) → plain ≡ false → r ≡ answerOf (unpacked src) due → r ≡ answerOf (contents plain src) due

@@ -7,11 +7,11 @@ use lib.Dec.{eqb, ltb}
 use Rattle.slices.specs.Choose.{choose}
 use Rattle.slices.specs.Bytes.{wordAt}
 use Rattle.packed.specs.Packed.{Found, malformed, bytes, unpacked}
-use Rattle.packed.specs.Unpacking.{counted}
+use Rattle.packed.specs.Unpacking.{lengthCounted}
 use Rattle.pages.specs.declared.Model.{Model}
 use Rattle.numbers.specs.declared.FileFault.{FileFault}
 use Rattle.numbers.specs.declared.Refusal.the-variants.{BlockCut, BlockNumber, BlockTwice, MalformedData}
-use Rattle.numbers.specs.Faults.{faultIn, otherLength}
+use Rattle.numbers.specs.Faults.{faultIn, lengthFault}
 use Rattle.block_pages.specs.declared.Page.{Page}
 use Rattle.block_pages.specs.declared.Page.the-variants.{At, NoPage}
 use Rattle.block_pages.specs.Numbered.{pageOf, pagesSeen}
@@ -38,7 +38,7 @@ ordinal seen = suc (pagesSeen seen)
 abbrev pub pageFrom : ℕ → ℕ → Found → ℕ → List ℕ → Block
 pageFrom block place (malformed i) page rest = refused (faultIn block (place + 3 + i) MalformedData)
 pageFrom block place (bytes xs) page rest =
-    choose (eqb (length xs) 16384) (brought page xs rest) (refused (otherLength block place (counted (length xs)) 16384))
+    choose (eqb (length xs) 16384) (brought page xs rest) (refused (lengthFault block place (lengthCounted (length xs)) 16384))
 
 -- 9 a number not of this mode, then 10 twice, both at the head
 abbrev pub onPage : ℕ → Page → List Bool → Found → List ℕ → Block

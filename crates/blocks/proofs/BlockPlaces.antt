@@ -10,7 +10,7 @@ use lib.ListN.{length, getD, take, drop, length-drop, length-take}
 use Rattle.slices.specs.Bytes.{wordAt}
 use Rattle.slices.proofs.Chosen.{either}
 use Rattle.packed.specs.Packed.{Found, malformed, bytes}
-use Rattle.packed.specs.Unpacking.{counted}
+use Rattle.packed.specs.Unpacking.{lengthCounted}
 use Rattle.pages.specs.declared.Model.{Model}
 use Rattle.numbers.specs.declared.Refusal.the-variants.{BlockCut}
 use Rattle.numbers.specs.Faults.{faultIn}
@@ -43,7 +43,7 @@ module _ (place : ℕ) (s : List ℕ) (h : 0 < place) where
   data-placed block (malformed i) page rest b f l = (somewhere 11 (place + 3 + i) (place + length s) refl (λ e. omega arith) (omega arith) (omega (arith, f i refl)), in-a-block 11 block refl refl b)
   data-placed block (bytes xs) page rest b f l =
       either (BlockPlaced size s) (eqb (length xs) 16384) _ _ (λ t. l)
-      (λ t. (somewhere 12 place (place + length s) refl (λ e. omega arith) h (omega arith), of-a-length block (counted (length xs)) 16384 b (omega arith)))
+      (λ t. (somewhere 12 place (place + length s) refl (λ e. omega arith) h (omega arith), of-a-length block (lengthCounted (length xs)) 16384 b (omega arith)))
 
   page-placed : (p : Page) (seen : List Bool) (d : Found) (rest : List ℕ) → ((i : ℕ) → d ≡ malformed i → 3 + i ≤ length s) → length rest ≤ length s
       → BlockPlaced size s (onPage place p seen d rest)

@@ -20,7 +20,7 @@ use Rattle.pages.specs.declared.Model.{Model}
 use Rattle.numbers.specs.declared.Refusal.{Refusal}
 use Rattle.numbers.specs.declared.Refusal.the-variants.{MalformedData}
 use Rattle.numbers.specs.declared.FileFault.{FileFault}
-use Rattle.numbers.specs.Faults.{faultIn, otherLength, missing}
+use Rattle.numbers.specs.Faults.{faultIn, lengthFault, missing}
 use Rattle.block_pages.specs.Numbered.{pagesSeen, pagesDue}
 use Rattle.block_read.specs.declared.BlockHead.{BlockHead}
 use Rattle.block_read.specs.declared.BlockHead.the-variants.{Bad, Data}
@@ -116,11 +116,11 @@ module _ (k : Model) (seen : List Bool) (file : List ℕ) (at : ℕ) (head : Blo
               (ap (λ (j : ℕ). refused (faultIn (ordinal seen) (j + i) MalformedData)) (sym (head-holds .behind)));
         })
 
-    pub wrong-block : (n : ℕ) (step : BlockStep) → r ≡ WrongLength n → step ≡ Failed (otherLength (ordinal seen) at n 16384) → StepSays k seen file at before after step
+    pub wrong-block : (n : ℕ) (step : BlockStep) → r ≡ WrongLength n → step ≡ Failed (lengthFault (ordinal seen) at n 16384) → StepSays k seen file at before after step
     unfolding body
     wrong-block n step e q =
         let w = wrong-is _ _ 16384 r _ data-fills refl n e in
-        rw q (record { block = head-holds .block ∙ rw (w .1 .0, w .1 .1 .0) (ap (λ (m : ℕ). refused (otherLength (ordinal seen) at m 16384)) (sym (w .1 .1 .1))) })
+        rw q (record { block = head-holds .block ∙ rw (w .1 .0, w .1 .1 .0) (ap (λ (m : ℕ). refused (lengthFault (ordinal seen) at m 16384)) (sym (w .1 .1 .1))) })
 
 -- the faults that are made from what was seen
 pub fault-missing : (model : Model) (seen : List Bool) (good due : ℕ) (r : FileFault) → good ≡ pagesSeen seen → due ≡ pagesDue model → r ≡ missing good due → r ≡ missing (pagesSeen seen) (pagesDue model)
@@ -129,6 +129,6 @@ fault-missing model seen good due r a b q = q ∙ rw (a, b)
 pub step-failed : (why : Refusal) (place : ℕ) (seen : List Bool) (n : ℕ) (fault : FileFault) → n ≡ ordinal seen → fault ≡ faultIn n place why → Failed fault ≡ Failed (faultIn (ordinal seen) place why)
 step-failed why place seen n fault a q = ap Failed (q ∙ ap (λ (m : ℕ). faultIn m place why) a)
 
-pub step-length : (place : ℕ) (seen : List Bool) (found n : ℕ) (fault : FileFault) → n ≡ ordinal seen → fault ≡ otherLength n place found 16384
-    → Failed fault ≡ Failed (otherLength (ordinal seen) place found 16384)
-step-length place seen found n fault a q = ap Failed (q ∙ ap (λ (m : ℕ). otherLength m place found 16384) a)
+pub step-length : (place : ℕ) (seen : List Bool) (found n : ℕ) (fault : FileFault) → n ≡ ordinal seen → fault ≡ lengthFault n place found 16384
+    → Failed fault ≡ Failed (lengthFault (ordinal seen) place found 16384)
+step-length place seen found n fault a q = ap Failed (q ∙ ap (λ (m : ℕ). lengthFault m place found 16384) a)

@@ -14,10 +14,10 @@ use Rattle.slices.specs.Bytes.{wordAt}
 use Rattle.slices.specs.Put.{put}
 use Rattle.slices.proofs.Chosen.{either}
 use Rattle.packed.specs.Packed.{Found, malformed, bytes}
-use Rattle.packed.specs.Unpacking.{counted}
+use Rattle.packed.specs.Unpacking.{lengthCounted}
 use Rattle.pages.specs.declared.Model.{Model}
 use Rattle.numbers.specs.declared.FileFault.{FileFault}
-use Rattle.numbers.specs.Faults.{faultIn, otherLength}
+use Rattle.numbers.specs.Faults.{faultIn, lengthFault}
 use Rattle.numbers.specs.declared.Refusal.the-variants.{BlockCut, BlockTwice}
 use Rattle.block_pages.specs.declared.Page.{Page}
 use Rattle.block_pages.specs.declared.Page.the-variants.{At, NoPage}
@@ -49,7 +49,7 @@ module _ (P : Type 0) (seen : List Bool) (place : ℕ) (r a : List ℕ) (f : ℕ
   past-data (malformed i) page h c e = let z : _≡_ {A = ℕ} 0 1 = cc in absurd (omega arith)
   past-data (bytes xs) page h c e = go (eqb (length xs) 16384) e
     where
-      go : (b : Bool) → afterBlock (choose b (brought page xs r) (refused (otherLength (ordinal seen) place (counted (length xs)) 16384))) f ≡ bodyRead a → P
+      go : (b : Bool) → afterBlock (choose b (brought page xs r) (refused (lengthFault (ordinal seen) place (lengthCounted (length xs)) 16384))) f ≡ bodyRead a → P
       go true q = k page xs h c q
       go false q = let z : _≡_ {A = ℕ} 0 1 = cc in absurd (omega arith)
 

@@ -17,7 +17,7 @@ use Rattle.blocks.specs.declared.BodyAnswer.the-variants.{Whole}
 use Rattle.blocks.specs.declared.BlockStep.{BlockStep}
 use Rattle.blocks.specs.declared.BlockStep.the-variants.{Failed, Next}
 use Rattle.block_read.specs.Block.{Block, blockOf}
-use Rattle.blocks.specs.Blocks.{BodyResult, bodyRefused, bodyRead, Lent, ReadsBody, afterBlock, finished, blocks, noneSeen, blocksInto}
+use Rattle.blocks.specs.Blocks.{BodyResult, bodyRefused, bodyRead, ZerosLent, ReadsBody, afterBlock, finished, blocks, noneSeen, blocksInto}
 use Rattle.block_pages.specs.Numbered.{allThere, pagesSeen, pagesDue}
 use Rattle.block_read.specs.Inner.{Refuses}
 use Rattle.blocks.specs.Inner.{Brings, StepSays}
@@ -31,7 +31,7 @@ pub record BlocksSoFar (model : Model) (file : List ℕ) (all : BodyResult) (n :
   pub long : length area ≡ n
   pub real : n ≡ 131072 → area ≡ laid
 
-pub blocks-begin : (model : Model) (file : List ℕ) (area : List ℕ) (from : ℕ) → Lent area
+pub blocks-begin : (model : Model) (file : List ℕ) (area : List ℕ) (from : ℕ) → ZerosLent area
     → BlocksSoFar model file (blocksInto model (blank 131072) from (drop from file)) (length area) area noneSeen from
 unfolding blocksInto
 blocks-begin model file area from l =

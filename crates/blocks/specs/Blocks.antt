@@ -22,7 +22,7 @@ pub data BodyResult : Type 0 where
   bodyRead : List ℕ → BodyResult
 
 -- what a body is read into: 131,072 zeros; or nothing, where the answer alone is asked
-pub record Lent (area : List ℕ) : Type 0 where
+pub record ZerosLent (area : List ℕ) : Type 0 where
   pub zeros : length area ≡ 131072 → area ≡ blank 131072
   pub none : (length area ≡ 131072 → ⊥) → length area ≡ 0
 

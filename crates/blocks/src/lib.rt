@@ -8,10 +8,10 @@ ghost use Prim.Native.Nat.{_<_};
 ghost use mathlib.Core.Path.{_≡_};
 ghost use lib.ListN.{length, drop};
 ghost use Rattle.slices.specs.Blank.{blank};
-ghost use Rattle.numbers.specs.Faults.{faultIn, otherLength, missing};
+ghost use Rattle.numbers.specs.Faults.{faultIn, lengthFault, missing};
 ghost use Rattle.block_pages.specs.Numbered.{pagesSeen, pagesDue};
 ghost use Rattle.block_read.specs.Block.{ordinal};
-ghost use Rattle.blocks.specs.Blocks.{blocksInto, bodyRefused, Lent, ReadsBody};
+ghost use Rattle.blocks.specs.Blocks.{blocksInto, bodyRefused, ZerosLent, ReadsBody};
 ghost use Rattle.blocks.specs.declared.BlockStep.the-variants.{Failed};
 ghost use Rattle.blocks.specs.Inner.{FillsOwn, StepSays};
 
@@ -29,7 +29,7 @@ enum BlockStep {
 
 // Block after block from a place to the end of the file, into an area of zeros, or without one. Refused, the area is all zero.
 pub fn read_blocks(file: &[u8], from: usize, model: Model, area: &mut [u8]) -> BodyAnswer
-    requires { ⌜ Lent (now area) ⌝ }
+    requires { ⌜ ZerosLent (now area) ⌝ }
     ensures { λ r. ⌜ ReadsBody (blocksInto model (blank 131072) from (drop from (now (file .entry)))) (length (now (area .entry))) r (now (area .exit)) ⌝ }
 {
     let mut seen = [false; 8];
@@ -78,9 +78,9 @@ fn failed(why: Refusal, place: usize, seen: [bool; 8]) -> BlockStep
 }
 
 fn failed_length(place: usize, seen: [bool; 8], found: usize) -> BlockStep
-    ensures { λ r. ⌜ r ≡ Failed (otherLength (ordinal seen) place found 16384) ⌝ }
+    ensures { λ r. ⌜ r ≡ Failed (lengthFault (ordinal seen) place found 16384) ⌝ }
 {
-    BlockStep::Failed(numbers::other_length(place, ordinal_of(seen), found, 16384))
+    BlockStep::Failed(numbers::length_fault(place, ordinal_of(seen), found, 16384))
 }
 
 // The block at a place of the file, read into its own part of the area, where there is one.

@@ -14,15 +14,15 @@ use Rattle.slices.specs.Blank.{blank}
 use Rattle.slices.proofs.Chosen.{same-is, same-true}
 use Rattle.packed.specs.Packed.{Found, malformed, bytes, unpacked}
 use Rattle.packed.specs.Packed.Promise.{bad-inside}
-use Rattle.packed.specs.Unpacking.{counted, answerOf}
+use Rattle.packed.specs.Unpacking.{lengthCounted, answerOf}
 use Rattle.packed.specs.declared.Unpacked.{Unpacked}
 use Rattle.packed.specs.declared.Unpacked.the-variants.{Good, WrongLength, Malformed}
 use Rattle.numbers.specs.declared.Refusal.{Refusal}
 use Rattle.numbers.specs.declared.FileFault.{FileFault}
 use Rattle.numbers.specs.declared.Refusal.the-variants.{MalformedData, EndMarker}
-use Rattle.numbers.specs.Faults.{faultIn, otherLength}
+use Rattle.numbers.specs.Faults.{faultIn, lengthFault}
 use Rattle.body_v1.specs.Body.{marked, spread, spreadFrom, bodyInto}
-use Rattle.blocks.specs.Blocks.{bodyRefused, bodyRead, Lent, ReadsBody}
+use Rattle.blocks.specs.Blocks.{bodyRefused, bodyRead, ZerosLent, ReadsBody}
 use Rattle.body_v1.specs.Inner.{pagesFrom, FillsPages}
 use Rattle.blocks.specs.declared.BodyAnswer.{BodyAnswer}
 use Rattle.blocks.specs.declared.BodyAnswer.the-variants.{Whole, Faulty}
@@ -68,21 +68,21 @@ pub spreads-none : (area body : List ℕ) → (length area ≡ 131072 → ⊥) �
 spreads-none area body h l = absurd (h l)
 
 -- what each answer of unpacking says of the body
-abbrev answered : ℕ → Unpacked → BodyAnswer
-answered place Good = Whole
-answered place (Malformed i) = Faulty (faultIn 1 (place + i) MalformedData)
-answered place (WrongLength n) = Faulty (otherLength 1 place n 49152)
+abbrev answerFrom : ℕ → Unpacked → BodyAnswer
+answerFrom place Good = Whole
+answerFrom place (Malformed i) = Faulty (faultIn 1 (place + i) MalformedData)
+answerFrom place (WrongLength n) = Faulty (lengthFault 1 place n 49152)
 
 module _ (place : ℕ) (u : Found) (n : ℕ) (r : Unpacked) (after : List ℕ) (f : FillsPages u n r after) where
-  body-answered : ReadsBody (spreadFrom place u (blank 131072)) n (answered place r) after
-  body-answered = subst (λ (x : Unpacked). ReadsBody (spreadFrom place u (blank 131072)) n (answered place x) after) (sym (f .answer)) (go u (f .memory))
+  body-answered : ReadsBody (spreadFrom place u (blank 131072)) n (answerFrom place r) after
+  body-answered = subst (λ (x : Unpacked). ReadsBody (spreadFrom place u (blank 131072)) n (answerFrom place x) after) (sym (f .answer)) (go u (f .memory))
     where
-      go : (u : Found) → (n ≡ 131072 → after ≡ pagesFrom u) → ReadsBody (spreadFrom place u (blank 131072)) n (answered place (answerOf u 49152)) after
+      go : (u : Found) → (n ≡ 131072 → after ≡ pagesFrom u) → ReadsBody (spreadFrom place u (blank 131072)) n (answerFrom place (answerOf u 49152)) after
       go (malformed i) m = (refl, m)
       go (bytes xs) m = two (eqb (length xs) 49152) m
         where
           two : (t : Bool) → (n ≡ 131072 → after ≡ choose t (spread (blank 131072) xs) (blank 131072))
-              → ReadsBody (choose t (bodyRead (spread (blank 131072) xs)) (bodyRefused (otherLength 1 place (counted (length xs)) 49152))) n (answered place (choose t Good (WrongLength (counted (length xs))))) after
+              → ReadsBody (choose t (bodyRead (spread (blank 131072) xs)) (bodyRefused (lengthFault 1 place (lengthCounted (length xs)) 49152))) n (answerFrom place (choose t Good (WrongLength (lengthCounted (length xs))))) after
           two true m = (refl, m)
           two false m = (refl, m)
 
@@ -92,14 +92,14 @@ module _ (place : ℕ) (u : Found) (n : ℕ) (r : Unpacked) (after : List ℕ) (
   pub body-malformed : (i : ℕ) (a : BodyAnswer) → r ≡ Malformed i → a ≡ Faulty (faultIn 1 (place + i) MalformedData) → ReadsBody (spreadFrom place u (blank 131072)) n a after
   body-malformed i a e q = rw q (rw e at body-answered)
 
-  pub body-wrong : (m : ℕ) (a : BodyAnswer) → r ≡ WrongLength m → a ≡ Faulty (otherLength 1 place m 49152) → ReadsBody (spreadFrom place u (blank 131072)) n a after
+  pub body-wrong : (m : ℕ) (a : BodyAnswer) → r ≡ WrongLength m → a ≡ Faulty (lengthFault 1 place m 49152) → ReadsBody (spreadFrom place u (blank 131072)) n a after
   body-wrong m a e q = rw q (rw e at body-answered)
 
 -- a bad code is among the data
 pub bad-code-before : (src : List ℕ) (n : ℕ) (r : Unpacked) (after : List ℕ) → FillsPages (unpacked src) n r after → (i : ℕ) → r ≡ Malformed i → i < length src
 bad-code-before src n r after f i e = bad-inside src i (malformed-is (unpacked src) 49152 49152 r _ (record { answer = f .answer; memory = refl }) refl i e)
 
-module _ (packed : Bool) (file : List ℕ) (from : ℕ) (area after : List ℕ) (lent : Lent area) where
+module _ (packed : Bool) (file : List ℕ) (from : ℕ) (area after : List ℕ) (lent : ZerosLent area) where
   pub read-marked : (m : Bool) (r : BodyAnswer) → packed ≡ true → m ≡ marked (bodyFrom file from) → m ≡ true
       → ReadsBody (spreadFrom from (unpacked (take (length (bodyFrom file from) - 4 - 0) (drop 0 (bodyFrom file from)))) (blank 131072)) (length area) r after
       → ReadsBody (bodyInto packed (blank 131072) from (drop from file)) (length area) r after
@@ -120,15 +120,15 @@ module _ (packed : Bool) (file : List ℕ) (from : ℕ) (area after : List ℕ) 
   unfolding bodyInto
   read-plain e l q = rw (e, ← to-end file from, eq-eqb _ _ l) (refl, λ n. q n ∙ ap (λ (a : List ℕ). spread a (bodyFrom file from)) (lent .zeros n))
 
-  pub read-wrong : (m : ℕ) (r : BodyAnswer) → packed ≡ false → (length (bodyFrom file from) ≡ 49152 → ⊥) → m ≡ counted (length (bodyFrom file from)) → r ≡ Faulty (otherLength 1 from m 49152)
+  pub read-wrong : (m : ℕ) (r : BodyAnswer) → packed ≡ false → (length (bodyFrom file from) ≡ 49152 → ⊥) → m ≡ lengthCounted (length (bodyFrom file from)) → r ≡ Faulty (lengthFault 1 from m 49152)
       → ReadsBody (bodyInto packed (blank 131072) from (drop from file)) (length area) r area
   unfolding bodyInto
   read-wrong m r e l c f =
-      rw (e, ← to-end file from, ne-eqb _ _ l) (f ∙ ap (λ (n : ℕ). Faulty (otherLength 1 from n 49152)) c, lent .zeros)
+      rw (e, ← to-end file from, ne-eqb _ _ l) (f ∙ ap (λ (n : ℕ). Faulty (lengthFault 1 from n 49152)) c, lent .zeros)
 
 -- the faults of a body
 pub fault-of-body : (why : Refusal) (place : ℕ) (fault : FileFault) → fault ≡ faultIn 1 place why → Faulty fault ≡ Faulty (faultIn 1 place why)
 fault-of-body why place fault e = ap Faulty e
 
-pub length-of-body : (place found : ℕ) (fault : FileFault) → fault ≡ otherLength 1 place found 49152 → Faulty fault ≡ Faulty (otherLength 1 place found 49152)
+pub length-of-body : (place found : ℕ) (fault : FileFault) → fault ≡ lengthFault 1 place found 49152 → Faulty fault ≡ Faulty (lengthFault 1 place found 49152)
 length-of-body place found fault e = ap Faulty e

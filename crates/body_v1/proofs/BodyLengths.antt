@@ -10,9 +10,9 @@ use lib.ListN.{length, take, length-take}
 use Rattle.slices.specs.Choose.{choose}
 use Rattle.packed.specs.Packed.{Found, malformed, bytes, unpacked}
 use Rattle.packed.specs.Packed.Promise.{unpacked-long}
-use Rattle.packed.specs.Unpacking.{counted}
+use Rattle.packed.specs.Unpacking.{lengthCounted}
 use Rattle.numbers.specs.declared.FileFault.{FileFault}
-use Rattle.numbers.specs.Faults.{faultIn, otherLength}
+use Rattle.numbers.specs.Faults.{faultIn, lengthFault}
 use Rattle.numbers.specs.declared.Refusal.the-variants.{EndMarker}
 use Rattle.blocks.specs.Blocks.{BodyResult, bodyRefused, bodyRead}
 use Rattle.body_v1.specs.Body.{spread, spreadFrom, marked, bodyInto}
@@ -24,7 +24,7 @@ only-read P false x fault a f e = let z : _≡_ {A = ℕ} 0 1 = cc in absurd (om
 spread-most : (n place : ℕ) (d : Found) (area a : List ℕ) → ((xs : List ℕ) → d ≡ bytes xs → n ≤ 4 + 4 * length xs) → spreadFrom place d area ≡ bodyRead a → n ≤ 196612
 spread-most n place (malformed i) area a f e = let z : _≡_ {A = ℕ} 0 1 = cc in absurd (omega arith)
 spread-most n place (bytes xs) area a f e =
-    only-read (n ≤ 196612) (eqb (length xs) 49152) (bodyRead (spread area xs)) (otherLength 1 place (counted (length xs)) 49152) a (λ t q. omega (arith, f xs refl, eqb-true (length xs) 49152 t)) e
+    only-read (n ≤ 196612) (eqb (length xs) 49152) (bodyRead (spread area xs)) (lengthFault 1 place (lengthCounted (length xs)) 49152) a (λ t q. omega (arith, f xs refl, eqb-true (length xs) 49152 t)) e
 
 -- 4 * 49,152 and the four bytes of the end marker
 pub body-most : (packed : Bool) (area : List ℕ) (place : ℕ) (s a : List ℕ) → bodyInto packed area place s ≡ bodyRead a → length s ≤ 196612

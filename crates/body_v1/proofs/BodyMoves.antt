@@ -30,12 +30,12 @@ use Rattle.slices.specs.Blank.{blank}
 use Rattle.slices.specs.Put.{put}
 use Rattle.slices.proofs.Puts.{length-put}
 use Rattle.packed.specs.Packed.{Found, malformed, bytes}
-use Rattle.packed.specs.Unpacking.{Unpacks, counted, answerOf}
+use Rattle.packed.specs.Unpacking.{Unpacks, lengthCounted, answerOf}
 use Rattle.packed.specs.declared.Unpacked.{Unpacked}
 use Rattle.packed.specs.declared.Unpacked.the-variants.{Good, WrongLength, Malformed}
 use Rattle.body_v1.specs.Body.{spread}
 use Rattle.body_v1.specs.Inner.{pageMoved, topCleared, settled, pagesFrom, FillsPages}
-use Rattle.blocks.specs.Blocks.{Lent}
+use Rattle.blocks.specs.Blocks.{ZerosLent}
 use Rattle.block_read.proofs.Answers.{good-is, refused-zeros}
 
 -- k bytes of the page at `from` stand at `to` too
@@ -204,9 +204,9 @@ module _ (b xs : List ℕ) (lb : length b ≡ 131072) (eb : b ≡ blank 131072) 
       ∙ sym spread-is
 
 -- the answers of unpacking into pages 5, 6 and 7
-module _ (u : Found) (area : List ℕ) (r : Unpacked) (body : List ℕ) (h : Unpacks u (length (midOf 81920 (length area - 81920) area)) r body) (l : length area ≡ 131072) (lent : Lent area) where
-  b : area ≡ blank 131072
-  b = lent .zeros l
+module _ (u : Found) (area : List ℕ) (r : Unpacked) (body : List ℕ) (h : Unpacks u (length (midOf 81920 (length area - 81920) area)) r body) (l : length area ≡ 131072) (lent : ZerosLent area) where
+  area-zeros : area ≡ blank 131072
+  area-zeros = lent .zeros l
 
   body-room : length (midOf 81920 (length area - 81920) area) ≡ 49152
   body-room = mid-len 81920 (length area) area (omega arith) ∙ omega arith
@@ -219,7 +219,7 @@ module _ (u : Found) (area : List ℕ) (r : Unpacked) (body : List ℕ) (h : Unp
       let w = good-is u _ 49152 r body h body-room e in
       record {
         answer = sym e ∙ answer-is;
-        memory = λ _. rw (w .0, eq-eqb (length body) 49152 (w .1)) (settled-is area body l b (w .1) after q ∙ ap (λ (a : List ℕ). spread a body) b);
+        memory = λ _. rw (w .0, eq-eqb (length body) 49152 (w .1)) (settled-is area body l area-zeros (w .1) after q ∙ ap (λ (a : List ℕ). spread a body) area-zeros);
       }
 
   -- zeros written over zeros
@@ -227,9 +227,9 @@ module _ (u : Found) (area : List ℕ) (r : Unpacked) (body : List ℕ) (h : Unp
   still-zero e =
       let part : body ≡ midOf 81920 (length area - 81920) area =
       refused-zeros u _ r body h e
-      ∙ end-zeros area 81920 49152 _ b body-room
+      ∙ end-zeros area 81920 49152 _ area-zeros body-room
       ∙ sym (take-all (length area - 81920) (drop 81920 area) (omega (arith, length-drop 81920 area))) in
-      ap (putMid 81920 (length area - 81920) area) part ∙ put-same 81920 (length area - 81920) area ∙ b
+      ap (putMid 81920 (length area - 81920) area) part ∙ put-same 81920 (length area - 81920) area ∙ area-zeros
 
   pages-refused : (r ≡ Good → ⊥) → FillsPages u (length area) r (putMid 81920 (length area - 81920) area body)
   pages-refused e = record { answer = answer-is; memory = λ _. still-zero e ∙ sym (go u (λ q. e (answer-is ∙ q))) }
@@ -238,7 +238,7 @@ module _ (u : Found) (area : List ℕ) (r : Unpacked) (body : List ℕ) (h : Unp
       go (malformed i) f = refl
       go (bytes xs) f = two (eqb (length xs) 49152) f
         where
-          two : (t : Bool) → (choose t Good (WrongLength (counted (length xs))) ≡ Good → ⊥) → choose t (spread (blank 131072) xs) (blank 131072) ≡ blank 131072
+          two : (t : Bool) → (choose t Good (WrongLength (lengthCounted (length xs))) ≡ Good → ⊥) → choose t (spread (blank 131072) xs) (blank 131072) ≡ blank 131072
           two true f = absurd (f refl)
           two false f = refl
 

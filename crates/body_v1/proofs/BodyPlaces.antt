@@ -9,7 +9,7 @@ use lib.ListN.{length, take, length-take}
 use Rattle.slices.proofs.Chosen.{either}
 use Rattle.packed.specs.Packed.{Found, malformed, bytes, unpacked}
 use Rattle.packed.specs.Packed.Promise.{bad-inside}
-use Rattle.packed.specs.Unpacking.{counted}
+use Rattle.packed.specs.Unpacking.{lengthCounted}
 use Rattle.numbers.proofs.FaultPlaces.{somewhere, where-it-ends, in-a-block, of-a-length}
 use Rattle.blocks.proofs.BlockPlaces.{BodyPlaced}
 use Rattle.body_v1.specs.Body.{spreadFrom, marked, bodyInto}
@@ -17,7 +17,7 @@ use Rattle.body_v1.specs.Body.{spreadFrom, marked, bodyInto}
 spread-placed : (place size : ℕ) (d : Found) (area : List ℕ) → 0 < place → place ≤ size → ((i : ℕ) → d ≡ malformed i → place + i ≤ size) → BodyPlaced size (spreadFrom place d area)
 spread-placed place size (malformed i) area h l f = (somewhere 11 (place + i) size refl (λ e. omega arith) (omega arith) (f i refl), in-a-block 11 1 refl refl (omega arith))
 spread-placed place size (bytes xs) area h l f = either (BodyPlaced size) (eqb (length xs) 49152) _ _ (λ t. tt)
-    (λ t. (somewhere 12 place size refl (λ e. omega arith) h l, of-a-length 1 (counted (length xs)) 49152 (omega arith) (omega arith)))
+    (λ t. (somewhere 12 place size refl (λ e. omega arith) h l, of-a-length 1 (lengthCounted (length xs)) 49152 (omega arith) (omega arith)))
 
 pub v1-placed : (packed : Bool) (area : List ℕ) (place : ℕ) (s : List ℕ) → 0 < place → BodyPlaced (place + length s) (bodyInto packed area place s)
 unfolding bodyInto

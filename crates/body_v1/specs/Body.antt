@@ -9,9 +9,9 @@ use Rattle.slices.specs.Choose.{choose}
 use Rattle.slices.specs.Same.{same}
 use Rattle.slices.specs.Put.{put}
 use Rattle.packed.specs.Packed.{Found, malformed, bytes, unpacked}
-use Rattle.packed.specs.Unpacking.{counted}
+use Rattle.packed.specs.Unpacking.{lengthCounted}
 use Rattle.numbers.specs.declared.Refusal.the-variants.{MalformedData, EndMarker}
-use Rattle.numbers.specs.Faults.{faultIn, otherLength}
+use Rattle.numbers.specs.Faults.{faultIn, lengthFault}
 use Rattle.blocks.specs.Blocks.{BodyResult, bodyRefused, bodyRead}
 
 -- 4000-7FFF is page 5, 8000-BFFF page 2, C000-FFFF page 0
@@ -22,7 +22,7 @@ spread area xs = put (put (put area 81920 (take 16384 xs)) 32768 (take 16384 (dr
 abbrev pub spreadFrom : ℕ → Found → List ℕ → BodyResult
 spreadFrom place (malformed i) area = bodyRefused (faultIn 1 (place + i) MalformedData)
 spreadFrom place (bytes xs) area =
-    choose (eqb (length xs) 49152) (bodyRead (spread area xs)) (bodyRefused (otherLength 1 place (counted (length xs)) 49152))
+    choose (eqb (length xs) 49152) (bodyRead (spread area xs)) (bodyRefused (lengthFault 1 place (lengthCounted (length xs)) 49152))
 
 -- whether the last four bytes are the end marker
 abbrev pub marked : List ℕ → Bool

@@ -8,8 +8,8 @@ ghost use lib.ListN.{length, take, drop};
 ghost use Rattle.slices.specs.Put.{put};
 ghost use Rattle.slices.specs.Blank.{blank};
 ghost use Rattle.packed.specs.Packed.{unpacked};
-ghost use Rattle.numbers.specs.Faults.{faultIn, otherLength};
-ghost use Rattle.blocks.specs.Blocks.{Lent, ReadsBody};
+ghost use Rattle.numbers.specs.Faults.{faultIn, lengthFault};
+ghost use Rattle.blocks.specs.Blocks.{ZerosLent, ReadsBody};
 ghost use Rattle.blocks.specs.declared.BodyAnswer.the-variants.{Faulty};
 ghost use Rattle.body_v1.specs.Body.{marked, spread, spreadFrom, bodyInto};
 ghost use Rattle.body_v1.specs.Inner.{pageMoved, topCleared, settled, FillsPages};
@@ -79,7 +79,7 @@ fn clear_top(area: &mut [u8])
 // A packed v1 stream without its marker, into an area of zeros: unpacked into pages 5, 6 and 7, which lie in a row, so that no other
 // memory is needed. Refused, the area is all zero: so unpacking leaves its part. Without an area, the answer alone.
 fn unpack_pages(src: &[u8], area: &mut [u8]) -> Unpacked
-    requires { ⌜ Lent (now area) ⌝ }
+    requires { ⌜ ZerosLent (now area) ⌝ }
     ensures { λ r. ⌜ FillsPages (unpacked (now (src .entry))) (length (now (area .entry))) r (now (area .exit)) ⌝ }
 {
     if area.len() == 131072 {
@@ -103,14 +103,14 @@ fn faulty_at(why: Refusal, place: usize) -> BodyAnswer
 }
 
 fn faulty_length(place: usize, found: usize) -> BodyAnswer
-    ensures { λ r. ⌜ r ≡ Faulty (otherLength 1 place found 49152) ⌝ }
+    ensures { λ r. ⌜ r ≡ Faulty (lengthFault 1 place found 49152) ⌝ }
 {
-    BodyAnswer::Faulty(numbers::other_length(place, 1, found, 49152))
+    BodyAnswer::Faulty(numbers::length_fault(place, 1, found, 49152))
 }
 
 // The same, of a stream that stands at a place of the file.
 fn unpack_body(src: &[u8], place: usize, area: &mut [u8]) -> BodyAnswer
-    requires { ⌜ (place + length (now src) ≤ 18446744073709551615) × Lent (now area) ⌝ }
+    requires { ⌜ (place + length (now src) ≤ 18446744073709551615) × ZerosLent (now area) ⌝ }
     ensures { λ r. ⌜ ReadsBody (spreadFrom place (unpacked (now (src .entry))) (blank 131072)) (length (now (area .entry))) r (now (area .exit)) ⌝ }
 {
     match unpack_pages(src, area) {
@@ -122,7 +122,7 @@ fn unpack_body(src: &[u8], place: usize, area: &mut [u8]) -> BodyAnswer
 
 // A v1 body from a place to the end of the file, into an area of zeros, or without one. Refused, the area is all zero still.
 pub fn read_body(file: &[u8], from: usize, packed: bool, area: &mut [u8]) -> BodyAnswer
-    requires { ⌜ (from ≤ length (now file)) × Lent (now area) ⌝ }
+    requires { ⌜ (from ≤ length (now file)) × ZerosLent (now area) ⌝ }
     ensures { λ r. ⌜ ReadsBody (bodyInto packed (blank 131072) from (drop from (now (file .entry)))) (length (now (area .entry))) r (now (area .exit)) ⌝ }
 {
     let body = &file[from..];

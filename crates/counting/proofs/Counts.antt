@@ -6,7 +6,7 @@ use mathlib.Core.List.{List}
 use lib.ListN.{length}
 use borrow.Author.Tests.{eq-eqb, ne-eqb}
 use Rattle.packed.specs.Packed.{Found, malformed, bytes, unpacked}
-use Rattle.packed.specs.Unpacking.{counted, answerOf}
+use Rattle.packed.specs.Unpacking.{lengthCounted, answerOf}
 use Rattle.packed.specs.Inner.{over}
 use Rattle.packed.specs.declared.Unpacked.{Unpacked}
 use Rattle.packed.specs.declared.Unpacked.the-variants.{Good, WrongLength, Malformed}
@@ -35,5 +35,5 @@ module _ (s : List ℕ) (due : ℕ) (r : Unpacked) (h : due < 65536) (e : r ≡ 
   pub right-length : (n : ℕ) → r ≡ WrongLength n → n ≡ due → Good ≡ answerOf (unpacked s) due
   right-length n q z = let b : Becomes due (unpacked s) (WrongLength n) = rw q at counted-becomes in b .0 z
 
-  pub other-length : (n : ℕ) → r ≡ WrongLength n → (n ≡ due → ⊥) → WrongLength n ≡ answerOf (unpacked s) due
-  other-length n q z = let b : Becomes due (unpacked s) (WrongLength n) = rw q at counted-becomes in b .1 z
+  pub length-stays : (n : ℕ) → r ≡ WrongLength n → (n ≡ due → ⊥) → WrongLength n ≡ answerOf (unpacked s) due
+  length-stays n q z = let b : Becomes due (unpacked s) (WrongLength n) = rw q at counted-becomes in b .1 z

@@ -14,7 +14,7 @@ pub fn would_unpack(src: &[u8], due: usize) -> Unpacked
     requires { ⌜ due < 65536 ⌝ }
     ensures { λ r. ⌜ r ≡ answerOf (unpacked (now (src .entry))) due ⌝ }
 {
-    match count(src) {
+    match count_data(src) {
         Unpacked::Good => Unpacked::Good,
         Unpacked::Malformed(i) => Unpacked::Malformed(i),
         Unpacked::WrongLength(n) => {
@@ -27,7 +27,7 @@ pub fn would_unpack(src: &[u8], due: usize) -> Unpacked
 }
 
 // How many bytes src stands for, or its first bad code. 16 places are looked at together, and the last code among them is read whole.
-fn count(src: &[u8]) -> Unpacked
+fn count_data(src: &[u8]) -> Unpacked
     ensures { λ r. ⌜ r ≡ over 0 (unpacked (now (src .entry))) ⌝ }
 {
     let mut i: usize = 0;

@@ -14,7 +14,7 @@ use Rattle.pages.specs.declared.Model.the-variants.{K48, K128}
 use Rattle.spectrum.specs.declared.Attachment.{Attachment}
 use Rattle.spectrum.specs.declared.Attachment.the-variants.{Nothing}
 use Rattle.numbers.specs.declared.Refusal.the-variants.{UnknownVersion, ModeNotCarried, InterruptMode, Byte60}
-use Rattle.numbers.specs.Faults.{unplaced, tooShort, counterBeyond}
+use Rattle.numbers.specs.Faults.{unplaced, fileShort, counterBeyond}
 use Rattle.clock.specs.Clock.{quarter}
 use Rattle.header.specs.declared.Version.{Version}
 use Rattle.header.specs.declared.Version.the-variants.{V1, V2, V3}
@@ -109,7 +109,7 @@ module _ (v : Version) (model : Model) (a : Attachment) (s : List ℕ) where
 
 -- the later versions
 module _ (v : Version) (s : List ℕ) (l : ℕ) (el : l ≡ headerLength v) where
-  pub later-short : (r : Head) → length s < l → r ≡ Refused (tooShort (length s) l) → r ≡ laterHead (Is v) s
+  pub later-short : (r : Head) → length s < l → r ≡ Refused (fileShort (length s) l) → r ≡ laterHead (Is v) s
   later-short r h q = rw (← el, lt-ltb (length s) l h) q
 
   module _ (f : Mode) (h : l ≤ length s) (ef : f ≡ modeOf v (at s 34)) where
@@ -121,7 +121,7 @@ module _ (v : Version) (s : List ℕ) (l : ℕ) (el : l ≡ headerLength v) wher
 
 -- the whole
 module _ (s : List ℕ) where
-  pub head-30 : (r : Head) → length s < 30 → r ≡ Refused (tooShort (length s) 30) → r ≡ headOf s
+  pub head-30 : (r : Head) → length s < 30 → r ≡ Refused (fileShort (length s) 30) → r ≡ headOf s
   unfolding headOf
   head-30 r h q = rw (lt-ltb (length s) 30 h) q
 
@@ -130,7 +130,7 @@ module _ (s : List ℕ) where
     unfolding headOf
     head-v1 r z q = rw (le-ltb (length s) 30 h, ← ew, ne-eqb w 0 z) q
 
-    pub head-32 : (r : Head) → w ≡ 0 → length s < 32 → r ≡ Refused (tooShort (length s) 32) → r ≡ headOf s
+    pub head-32 : (r : Head) → w ≡ 0 → length s < 32 → r ≡ Refused (fileShort (length s) 32) → r ≡ headOf s
     unfolding headOf
     head-32 r z k q = rw (le-ltb (length s) 30 h, ← ew, eq-eqb w 0 z, lt-ltb (length s) 32 k) q
 

@@ -12,7 +12,7 @@ use Rattle.pages.specs.declared.Model.the-variants.{K48, K128}
 use Rattle.spectrum.specs.declared.Attachment.{Attachment}
 use Rattle.spectrum.specs.declared.Attachment.the-variants.{Nothing, InterfaceI, Mgt}
 use Rattle.numbers.specs.declared.Refusal.the-variants.{UnknownVersion, ModeNotCarried, InterruptMode, Byte60}
-use Rattle.numbers.specs.Faults.{unplaced, tooShort, counterBeyond}
+use Rattle.numbers.specs.Faults.{unplaced, fileShort, counterBeyond}
 use Rattle.clock.specs.Clock.{quarter}
 use Rattle.header.specs.declared.Version.{Version}
 use Rattle.header.specs.declared.Version.the-variants.{V1, V2, V3}
@@ -82,7 +82,7 @@ modeHead version (Carried model attachment) s = choose (badIm s) (Refused (unpla
 -- 3, then 2 (whole header), then the rest
 abbrev pub laterHead : Known → List ℕ → Head
 laterHead Unknown s = Refused (unplaced UnknownVersion)
-laterHead (Is version) s = choose (ltb (length s) (headerLength version)) (Refused (tooShort (length s) (headerLength version))) (modeHead version (modeOf version (at s 34)) s)
+laterHead (Is version) s = choose (ltb (length s) (headerLength version)) (Refused (fileShort (length s) (headerLength version))) (modeHead version (modeOf version (at s 34)) s)
 
 -- v1: 4 for SamRom, bit 4 of byte 12, then 5
 abbrev pub firstHead : List ℕ → Head
@@ -90,7 +90,7 @@ firstHead s = choose (bitAt (byte12Of s) 16) (Refused (unplaced ModeNotCarried))
 
 unfoldable pub headOf : List ℕ → Head
 headOf s =
-    choose (ltb (length s) 30) (Refused (tooShort (length s) 30))
+    choose (ltb (length s) 30) (Refused (fileShort (length s) 30))
     (choose (eqb (wordAt s 6) 0)
-    (choose (ltb (length s) 32) (Refused (tooShort (length s) 32)) (laterHead (versionOf (wordAt s 30)) s))
+    (choose (ltb (length s) 32) (Refused (fileShort (length s) 32)) (laterHead (versionOf (wordAt s 30)) s))
     (firstHead s))

@@ -27,16 +27,16 @@ abbrev pub withFigures : Refusal → ℕ → ℕ → FileFault
 withFigures why found due = record { why = why; place = 0; block = 0; found = found; due = due }
 
 -- "For 2: the file's length and the least needed"
-abbrev pub tooShort : ℕ → ℕ → FileFault
-tooShort size least = withFigures FileShort size least
+abbrev pub fileShort : ℕ → ℕ → FileFault
+fileShort size least = withFigures FileShort size least
 
 -- "6: the first bad counter, low before high, and its largest"
 abbrev pub counterBeyond : ℕ → ℕ → FileFault
 counterBeyond counter largest = withFigures CounterRange counter largest
 
 -- "12: unpacked length, counted no further than 65,536, and the right one"
-abbrev pub otherLength : ℕ → ℕ → ℕ → ℕ → FileFault
-otherLength block place counted due = record { why = UnpackedLength; place = place; block = block; found = counted; due = due }
+abbrev pub lengthFault : ℕ → ℕ → ℕ → ℕ → FileFault
+lengthFault block place found due = record { why = UnpackedLength; place = place; block = block; found = found; due = due }
 
 -- "13: blocks found, blocks due"
 abbrev pub missing : ℕ → ℕ → FileFault

@@ -1,7 +1,7 @@
 // The numbers that calls answer: document 01's one table, and those that document 02 adds to it.
 ghost use mathlib.Core.Path.{_≡_};
 ghost use Rattle.numbers.specs.Numbers.{numberOf, refusalNumber};
-ghost use Rattle.numbers.specs.Faults.{faultIn, withFigures, otherLength, unplaced};
+ghost use Rattle.numbers.specs.Faults.{faultIn, withFigures, lengthFault, unplaced};
 
 // Why a call is refused, in the order of the table.
 pub enum Refusal {
@@ -80,8 +80,8 @@ pub fn figured(why: Refusal, found: usize, due: usize) -> FileFault
 }
 
 // The bytes of a block, at a place of the file, are of another length than is due.
-pub fn other_length(place: usize, block: usize, found: usize, due: usize) -> FileFault
-    ensures { λ r. ⌜ r ≡ otherLength block place found due ⌝ }
+pub fn length_fault(place: usize, block: usize, found: usize, due: usize) -> FileFault
+    ensures { λ r. ⌜ r ≡ lengthFault block place found due ⌝ }
 {
     FileFault {
         why: Refusal::UnpackedLength,

@@ -10,13 +10,13 @@ use Rattle.packed.specs.declared.Unpacked.{Unpacked}
 use Rattle.packed.specs.declared.Unpacked.the-variants.{Good, WrongLength, Malformed}
 
 -- a length, "counted no further than 65,536"
-abbrev pub counted : ℕ → ℕ
-counted n = min n 65536
+abbrev pub lengthCounted : ℕ → ℕ
+lengthCounted n = min n 65536
 
 -- malformed, and where, before the length is looked at; then the length, and what it is
 abbrev pub answerOf : Found → ℕ → Unpacked
 answerOf (malformed i) n = Malformed i
-answerOf (bytes xs) n = choose (eqb (length xs) n) Good (WrongLength (counted (length xs)))
+answerOf (bytes xs) n = choose (eqb (length xs) n) Good (WrongLength (lengthCounted (length xs)))
 
 -- the bytes where the answer is Good, and zeros otherwise
 abbrev pub leftBy : Found → ℕ → List ℕ

@@ -11,7 +11,7 @@ use lib.Dec.{eqb}
 use borrow.Author.Tests.{ne-eqb, eq-eqb}
 use Rattle.packed.specs.Packed.{Found, malformed, bytes, before, run, unpacked}
 use Rattle.packed.specs.Packed.CodeLaws.{front-plain, front-cut, front-run, unpacked-nil}
-use Rattle.packed.specs.Unpacking.{counted, answerOf, leftBy, Unpacks}
+use Rattle.packed.specs.Unpacking.{lengthCounted, answerOf, leftBy, Unpacks}
 use Rattle.packed.specs.Inner.{over}
 use Rattle.codes.specs.Inner.{escapeAt}
 use Rattle.codes.proofs.Escape.{escape-there}
@@ -46,11 +46,11 @@ abbrev pub overAt : List ℕ → ℕ → ℕ → Unpacked
 overAt s i o = over o (before i [] (unpacked (drop i s)))
 
 -- k bytes on, which stand for xs, and counted no further than 65,536
-over-before : (i k o : ℕ) (xs : List ℕ) (u : Found) → over o (before i [] (before k xs u)) ≡ over (counted (o + length xs)) (before (i + k) [] u)
+over-before : (i k o : ℕ) (xs : List ℕ) (u : Found) → over o (before i [] (before k xs u)) ≡ over (lengthCounted (o + length xs)) (before (i + k) [] u)
 over-before i k o xs (malformed j) = ap Malformed (omega arith)
 over-before i k o xs (bytes ys) = ap WrongLength (omega (arith, length-append xs ys))
 
-over-counted : (o : ℕ) (u : Found) → over o u ≡ over (counted o) u
+over-counted : (o : ℕ) (u : Found) → over o u ≡ over (lengthCounted o) u
 over-counted o (malformed j) = refl
 over-counted o (bytes ys) = ap WrongLength (omega arith)
 
@@ -60,12 +60,12 @@ pub record Resting (s : List ℕ) (from o i n : ℕ) : Type 0 where
   pub few : n ≤ 65536
   pub same : overAt s from o ≡ overAt s i n
 
-pub resting-none : (s : List ℕ) (from o n : ℕ) → from ≤ length s → n ≡ counted o → Resting s from o from n
+pub resting-none : (s : List ℕ) (from o n : ℕ) → from ≤ length s → n ≡ lengthCounted o → Resting s from o from n
 resting-none s from o n h e = record { reach = h; few = omega arith; same = over-counted o (before from [] (unpacked (drop from s))) ∙ ap (overAt s from) (sym e) }
 
 module _ (s : List ℕ) (from o i n : ℕ) (g : Resting s from o i n) where
   -- k bytes on, which stand for xs
-  pub resting-on : (k m : ℕ) (xs : List ℕ) → unpacked (drop i s) ≡ before k xs (unpacked (drop (i + k) s)) → i + k ≤ length s → m ≡ counted (n + length xs) → Resting s from o (i + k) m
+  pub resting-on : (k m : ℕ) (xs : List ℕ) → unpacked (drop i s) ≡ before k xs (unpacked (drop (i + k) s)) → i + k ≤ length s → m ≡ lengthCounted (n + length xs) → Resting s from o (i + k) m
   resting-on k m xs q h c =
       record {
         reach = h;
@@ -74,14 +74,14 @@ module _ (s : List ℕ) (from o i n : ℕ) (g : Resting s from o i n) where
       }
 
 module _ (s : List ℕ) (from o i n : ℕ) (r : Bool) (g : Resting s from o i n) (e : r ≡ escapeAt s i) where
-  pub resting-plain : (m : ℕ) → i < length s → r ≡ false → m ≡ counted (n + 1) → Resting s from o (i + 1) m
+  pub resting-plain : (m : ℕ) → i < length s → r ≡ false → m ≡ lengthCounted (n + 1) → Resting s from o (i + 1) m
   resting-plain m h f c = resting-on s from o i n g 1 m (getD s i 0 ∷ []) (step-plain s i r e h f) (omega arith) c
 
-  pub resting-run : (k m : ℕ) → i + 4 ≤ length s → r ≡ true → k ≡ getD s (i + 2) 0 → (k ≡ 0 → ⊥) → m ≡ counted (n + k) → Resting s from o (i + 4) m
+  pub resting-run : (k m : ℕ) → i + 4 ≤ length s → r ≡ true → k ≡ getD s (i + 2) 0 → (k ≡ 0 → ⊥) → m ≡ lengthCounted (n + k) → Resting s from o (i + 4) m
   resting-run k m h t q z c =
       resting-on s from o i n g 4 m (replicate k (getD s (i + 3) 0))
       (step-run s i r e h t ∙ ap (λ (x : ℕ). run x (getD s (i + 3) 0) (unpacked (drop (i + 4) s))) (sym q) ∙ rw (ne-eqb k 0 z)) h
-      (c ∙ ap (λ (x : ℕ). counted (n + x)) (sym (length-replicate k (getD s (i + 3) 0))))
+      (c ∙ ap (λ (x : ℕ). lengthCounted (n + x)) (sym (length-replicate k (getD s (i + 3) 0))))
 
   resting-bad : unpacked (drop i s) ≡ malformed 0 → Malformed i ≡ overAt s from o
   resting-bad q = sym (g .same ∙ ap (λ (u : Found). over n (before i [] u)) q ∙ ap Malformed (add-zero i))
@@ -103,7 +103,7 @@ left-refused : (u : Found) (n : ℕ) → (answerOf u n ≡ Good → ⊥) → rep
 left-refused (malformed i) n h = refl
 left-refused (bytes xs) n h = go (eqb (length xs) n) h
   where
-    go : (t : Bool) → (choose t Good (WrongLength (counted (length xs))) ≡ Good → ⊥) → replicate n 0 ≡ choose t xs (replicate n 0)
+    go : (t : Bool) → (choose t Good (WrongLength (lengthCounted (length xs))) ≡ Good → ⊥) → replicate n 0 ≡ choose t xs (replicate n 0)
     go true h = absurd (h refl)
     go false h = refl
 
@@ -112,7 +112,7 @@ over-full : (i k : ℕ) (xs ys : List ℕ) (w : Found) (n : ℕ) → n < length 
 over-full i k xs ys (malformed j) n h = refl
 over-full i k xs ys (bytes zs) n h =
     let l : length (xs ++ (ys ++ zs)) ≡ length xs + (length ys + length zs) = length-append xs (ys ++ zs) ∙ ap (λ (m : ℕ). length xs + m) (length-append ys zs) in
-    rw (ne-eqb (length (xs ++ (ys ++ zs))) n (λ e. omega arith)) (ap (λ (m : ℕ). WrongLength (counted m)) (sym (length-append xs (ys ++ zs))))
+    rw (ne-eqb (length (xs ++ (ys ++ zs))) n (λ e. omega arith)) (ap (λ (m : ℕ). WrongLength (lengthCounted m)) (sym (length-append xs (ys ++ zs))))
 
 module _ (u : Found) (s d₀ d : List ℕ) (i o : ℕ) (g : Frame unpacked u s d₀ d i o) where
   module _ (why r : Unpacked) (d′ : List ℕ) (c : (r ≡ why) × (d′ ≡ replicate (length d) 0)) where
@@ -185,9 +185,9 @@ module _ (u : Found) (s d₀ d : List ℕ) (i o : ℕ) (g : Frame unpacked u s d
       let q : eqb (length (take o d)) (length d₀) ≡ true = eq-eqb (length (take o d)) (length d₀) (omega (arith, g .long)) in
       record { answer = rw (all-read h, q); memory = rw (all-read h, q) (sym (take-all o d (omega arith))) }
 
-  pub wrong-into : (m : ℕ) (a : Unpacked) (d′ : List ℕ) → length s ≤ i → (o ≡ length d → ⊥) → m ≡ counted o → (a ≡ WrongLength m) × (d′ ≡ replicate (length d) 0)
+  pub wrong-into : (m : ℕ) (a : Unpacked) (d′ : List ℕ) → length s ≤ i → (o ≡ length d → ⊥) → m ≡ lengthCounted o → (a ≡ WrongLength m) × (d′ ≡ replicate (length d) 0)
       → Unpacks u (length d₀) a d′
   wrong-into m a d′ h e q′ c =
       let l : length (take o d) ≡ o = length-take-le o d (g .room) in
       let q : eqb (length (take o d)) (length d₀) ≡ false = ne-eqb (length (take o d)) (length d₀) (λ z. e (omega (arith, g .long))) in
-      refused-into (WrongLength m) a d′ c (rw (all-read h, q) (ap WrongLength (q′ ∙ ap counted (sym l)))) (bytes []) (ap WrongLength (q′ ∙ ap counted (sym (add-zero o))))
+      refused-into (WrongLength m) a d′ c (rw (all-read h, q) (ap WrongLength (q′ ∙ ap lengthCounted (sym l)))) (bytes []) (ap WrongLength (q′ ∙ ap lengthCounted (sym (add-zero o))))

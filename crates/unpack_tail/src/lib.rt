@@ -6,7 +6,7 @@ ghost use mathlib.Core.Path.{_≡_};
 ghost use mathlib.Core.List.{[]};
 ghost use lib.ListN.{length, take, drop, replicate};
 ghost use Rattle.packed.specs.Packed.{before, unpacked};
-ghost use Rattle.packed.specs.Unpacking.{counted, Unpacks};
+ghost use Rattle.packed.specs.Unpacking.{lengthCounted, Unpacks};
 ghost use Rattle.packed.specs.Inner.{over};
 
 // The rest of src unpacked, from `from` on, into dst from `at` on, after what stands before `at`; dst is all zero unless the answer
@@ -60,7 +60,7 @@ pub fn refused_part(dst: &mut [u8], why: Unpacked) -> Unpacked
 
 // A length, counted no further than 65,536.
 pub fn up_to(n: usize) -> usize
-    ensures { λ r. ⌜ r ≡ counted n ⌝ }
+    ensures { λ r. ⌜ r ≡ lengthCounted n ⌝ }
 {
     if n < 65536 { n } else { 65536 }
 }

@@ -1,2 +1,2 @@
-pub mod Explains
+pub mod ExplainSteps
 pub mod Theorems

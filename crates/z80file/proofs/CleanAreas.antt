@@ -12,11 +12,11 @@ use Rattle.slices.specs.Bytes.{wordAt}
 use Rattle.slices.specs.Put.{put}
 use Rattle.slices.specs.Blank.{blank}
 use Rattle.packed.specs.Packed.{Found, malformed, unpacked, bytes}
-use Rattle.packed.specs.Unpacking.{counted}
+use Rattle.packed.specs.Unpacking.{lengthCounted}
 use Rattle.pages.specs.declared.Model.{Model}
 use Rattle.pages.specs.declared.Model.the-variants.{K48}
 use Rattle.numbers.specs.declared.FileFault.{FileFault}
-use Rattle.numbers.specs.Faults.{faultIn, otherLength, missing}
+use Rattle.numbers.specs.Faults.{faultIn, lengthFault, missing}
 use Rattle.numbers.specs.declared.Refusal.the-variants.{BlockCut, BlockTwice, EndMarker}
 use Rattle.pages.specs.Pages.{owned}
 use Rattle.block_pages.specs.declared.Page.{Page}
@@ -48,7 +48,7 @@ owned-data : (model : Model) (block place : ℕ) (d : Found) (page : ℕ) (rest 
 owned-data model block place (malformed i) page rest o h = tt
 owned-data model block place (bytes xs) page rest o h = go (eqb (length xs) 16384) refl
   where
-    go : (b : Bool) → eqb (length xs) 16384 ≡ b → OwnedBlock model (choose b (brought page xs rest) (refused (otherLength block place (counted (length xs)) 16384)))
+    go : (b : Bool) → eqb (length xs) 16384 ≡ b → OwnedBlock model (choose b (brought page xs rest) (refused (lengthFault block place (lengthCounted (length xs)) 16384)))
     go true e = (o, (h, eqb-true _ _ e))
     go false e = tt
 
@@ -131,7 +131,7 @@ clean-found : (place : ℕ) (f : Found) → CleanBody K48 (spreadFrom place f (b
 clean-found place (malformed i) = tt
 clean-found place (bytes xs) = go (eqb (length xs) 49152) refl
   where
-    go : (b : Bool) → eqb (length xs) 49152 ≡ b → CleanBody K48 (choose b (bodyRead (spread (blank 131072) xs)) (bodyRefused (otherLength 1 place (counted (length xs)) 49152)))
+    go : (b : Bool) → eqb (length xs) 49152 ≡ b → CleanBody K48 (choose b (bodyRead (spread (blank 131072) xs)) (bodyRefused (lengthFault 1 place (lengthCounted (length xs)) 49152)))
     go true e = clean-spread xs (eqb-true _ _ e)
     go false e = tt
 

@@ -32,7 +32,7 @@ use Rattle.header.proofs.AcceptedHeads.{opens}
 use Rattle.header_read.proofs.MachineValid.{machine-valid}
 use Rattle.blocks.specs.declared.BodyAnswer.{BodyAnswer}
 use Rattle.blocks.specs.declared.BodyAnswer.the-variants.{Whole, Faulty}
-use Rattle.blocks.specs.Blocks.{BodyResult, bodyRefused, bodyRead, Lent, ReadsBody, blocksInto}
+use Rattle.blocks.specs.Blocks.{BodyResult, bodyRefused, bodyRead, ZerosLent, ReadsBody, blocksInto}
 use Rattle.body_v1.specs.Body.{bodyInto}
 use Rattle.z80read.specs.declared.Opened.{Opened}
 use Rattle.z80read.specs.Read.{memoryInto, ReadResult, refusedRead, afterBody, afterHead, readOf, ReadLeaves, Reads}
@@ -118,7 +118,7 @@ module _ (s before clear : List ℕ) (c₀ : clear ≡ take 0 before ++ replicat
     unfolding blank
     is-blank = c ∙ ap (λ (k : ℕ). replicate k 0) (sym clear-long ∙ h)
 
-    pub is-lent : Lent clear
+    pub is-lent : ZerosLent clear
     is-lent = record { zeros = λ _. is-blank; none = λ f. absurd (f h) }
 
     module _ (v : Version) (model : Model) (a : Attachment) (e : head ≡ Header v model a) where

@@ -17,7 +17,7 @@ ghost use Rattle.spectrum.specs.Machine.{blankMachine};
 ghost use Rattle.header.specs.Heads.{headerLength};
 ghost use Rattle.header_read.specs.Reading.{machineOf};
 ghost use Rattle.header.specs.Inner.{Readable};
-ghost use Rattle.blocks.specs.Blocks.{Lent, ReadsBody};
+ghost use Rattle.blocks.specs.Blocks.{ZerosLent, ReadsBody};
 ghost use Rattle.z80read.specs.Read.{memoryInto, afterBody, readOf, ReadLeaves, Reads};
 
 // What reading gives beside the area: the answer, the place in the file that is named with it, and the machine.
@@ -54,7 +54,7 @@ fn read_on(
     attachment: Attachment,
     area: &mut [u8],
 ) -> Opened
-    requires { ⌜ (Readable version model (now file)) × ((length (now area) ≡ 131072) × Lent (now area)) ⌝ }
+    requires { ⌜ (Readable version model (now file)) × ((length (now area) ≡ 131072) × ZerosLent (now area)) ⌝ }
     ensures { λ r. ⌜ ReadLeaves (afterBody (memoryInto version model (blank 131072) (now (file .entry))) (machineOf version model attachment (now (file .entry))) (length (now (area .entry)))) r (now (area .exit)) ⌝ }
 {
     let answer = read_memory(file, version, model, area);
@@ -69,7 +69,7 @@ fn read_on(
 
 // What follows the header, into an area of zeros, or without one. Refused, the area is all zero.
 pub fn read_memory(file: &[u8], version: Version, model: Model, area: &mut [u8]) -> BodyAnswer
-    requires { ⌜ (headerLength version ≤ length (now file)) × Lent (now area) ⌝ }
+    requires { ⌜ (headerLength version ≤ length (now file)) × ZerosLent (now area) ⌝ }
     ensures { λ r. ⌜ ReadsBody (memoryInto version model (blank 131072) (now (file .entry))) (length (now (area .entry))) r (now (area .exit)) ⌝ }
 {
     match version {

@@ -1,5 +1,5 @@
 use Prim.Native.Nat.{_-_}
-use Rattle.block_pages.proofs.BlockNumbers.{SeenSoFar, seen-none, seen-there, seen-absent, seen-all}
+use Rattle.block_pages.proofs.BlockNumbers.{SeenSoFar, none-counted, seen-there, seen-absent, all-counted}
 use borrow.Author.Needs.{needs}
 use Rattle.block_pages.proofs.pages_seen.Statement.{statement}
 use Rattle.block_pages.proofs.pages_seen.Tie as tie
@@ -11,7 +11,7 @@ abbrev μ-loop : tie.MeasureT-loop
 μ-loop seen n₀ k₀ n k = 8 - k
 
 loop-holds : tie.Need-loop-holds Inv-loop μ-loop
-loop-holds c = seen-none _
+loop-holds c = none-counted _
 
 array-read-if1 : tie.Need-array-read-if1 Inv-loop μ-loop
 array-read-if1 c = search needs
@@ -38,7 +38,7 @@ loop-again-2 : tie.Need-loop-again-2 Inv-loop μ-loop
 loop-again-2 c = search (needs, seen-absent)
 
 returns : tie.Need-returns Inv-loop μ-loop
-returns c = seen-all _ _ _ (c .before .loop .inv) (search needs) (search needs)
+returns c = all-counted _ _ _ (c .before .loop .inv) (search needs) (search needs)
 
 pub pages-seen-spec : {M : Type 1} → statement M
 pages-seen-spec =

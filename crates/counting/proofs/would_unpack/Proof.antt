@@ -1,10 +1,10 @@
-use Rattle.counting.proofs.Counts.{never-good, bad-code, right-length, other-length}
+use Rattle.counting.proofs.Counts.{never-good, bad-code, right-length, length-stays}
 use borrow.Author.Needs.{needs}
 use Rattle.counting.proofs.would_unpack.Statement.{statement}
 use Rattle.counting.proofs.would_unpack.Tie as tie
 
-count-requires : tie.Need-count-requires
-count-requires c κs = search needs
+count-data-requires : tie.Need-count-data-requires
+count-data-requires c κs = search needs
 
 enum-told : tie.Need-enum-told
 enum-told c = search needs
@@ -25,13 +25,13 @@ returns-3 : tie.Need-returns-3
 returns-3 c = search bad-code
 
 returns-4 : tie.Need-returns-4
-returns-4 c = search other-length
+returns-4 c = search length-stays
 
 pub would-unpack-spec : {M : Type 1} → statement M
 would-unpack-spec =
     tie.close
     (tie.spec
-    count-requires
+    count-data-requires
     enum-told
     enum-known-i
     enum-known-n

@@ -1,4 +1,4 @@
-use Rattle.z80explain.proofs.Explains.{head-faulty, head-there, head-good}
+use Rattle.z80explain.proofs.ExplainSteps.{head-faulty, head-there, head-good}
 use borrow.Author.Needs.{needs}
 use Rattle.z80explain.proofs.explain.Statement.{statement}
 use Rattle.z80explain.proofs.explain.Tie as tie

@@ -1,4 +1,4 @@
-use Rattle.z80explain.proofs.Explains.{nothing-lent, body-good, body-faulty}
+use Rattle.z80explain.proofs.ExplainSteps.{nothing-lent, body-good, body-faulty}
 use borrow.Author.Needs.{needs}
 use Rattle.z80explain.proofs.explain_body.Statement.{statement}
 use Rattle.z80explain.proofs.explain_body.Tie as tie

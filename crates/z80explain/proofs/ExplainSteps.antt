@@ -18,7 +18,7 @@ use Rattle.header.specs.declared.Head.the-variants.{Header}
 use Rattle.header.specs.Heads.{headerLength, headOf}
 use Rattle.header.proofs.AcceptedHeads.{opens, head-unplaced}
 use Rattle.header_read.specs.Reading.{machineOf}
-use Rattle.blocks.specs.Blocks.{BodyResult, bodyRefused, bodyRead, Lent, ReadsBody}
+use Rattle.blocks.specs.Blocks.{BodyResult, bodyRefused, bodyRead, ZerosLent, ReadsBody}
 use Rattle.blocks.specs.declared.BodyAnswer.{BodyAnswer}
 use Rattle.blocks.specs.declared.BodyAnswer.the-variants.{Whole, Faulty}
 use Rattle.blocks.proofs.BlockPlaces.{BodyPlaced}
@@ -27,7 +27,7 @@ use Rattle.z80read.specs.Read.{memoryInto, afterBody, afterHead, readOf}
 use Rattle.z80explain.specs.declared.Explained.{Explained}
 use Rattle.z80explain.specs.Explain.{nothingWrong, told, toldBody, toldHead, explainOf}
 
-pub nothing-lent : (area : List ℕ) → length area ≡ 0 → Lent area
+pub nothing-lent : (area : List ℕ) → length area ≡ 0 → ZerosLent area
 nothing-lent area e = record { zeros = λ l. absurd (omega arith); none = λ _. e }
 
 -- what each answer of reading into nothing tells

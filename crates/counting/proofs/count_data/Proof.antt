@@ -3,8 +3,8 @@ use lib.ListN.{length}
 use Rattle.counting.proofs.CountLoop.{counting-none, counting-16, code-inside, counting-zero, counting-run, counting-rest}
 use Rattle.unpack_tail.proofs.UnpackSteps.{Resting}
 use borrow.Author.Needs.{needs}
-use Rattle.counting.proofs.count.Statement.{statement}
-use Rattle.counting.proofs.count.Tie as tie
+use Rattle.counting.proofs.count_data.Statement.{statement}
+use Rattle.counting.proofs.count_data.Tie as tie
 
 abbrev Inv-loop : tie.InvT-loop
 Inv-loop src i₀ n₀ i n = Resting src 0 0 i n
@@ -79,8 +79,8 @@ rest-requires c κs = search needs
 returns-2 : tie.Need-returns-2 Inv-loop μ-loop
 returns-2 c = search counting-rest
 
-pub count-spec : {M : Type 1} → statement M
-count-spec =
+pub count-data-spec : {M : Type 1} → statement M
+count-data-spec =
     tie.close
     (tie.spec
     Inv-loop
