@@ -1,4 +1,4 @@
--- The RAM page of a block number, and whether all are there: both by the one table of `pages`.
+-- The RAM page of a block number, whether all are there, and how many are due: by the one table of `pages`; how many were seen.
 use Prim.Native.Nat.{ℕ, _+_}
 use mathlib.Core.Bool.{Bool, true, false}
 use mathlib.Core.List.{List, [], _∷_}

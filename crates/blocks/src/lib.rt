@@ -1,4 +1,4 @@
-// The blocks of a v2 or v3 file read into the pages of a lent area, one after the other.
+// The blocks of a v2 or v3 file read into the pages of a lent area, or without one, one after the other.
 use block_read::BlockHead;
 use numbers::FileFault;
 use numbers::Refusal;

@@ -1,4 +1,4 @@
-// The one stream of a v1 file read into the pages of a lent area. Above packing, through its promise alone.
+// The one stream of a v1 file read into the pages of a lent area, or without one. Above packing, through its promise alone.
 use blocks::BodyAnswer;
 use numbers::Refusal;
 use packed::Unpacked;

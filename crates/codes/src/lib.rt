@@ -1,4 +1,4 @@
-// Where ED ED stands in packed data: for 64 places at once, with the flags of crate flags, and for one.
+// Where ED ED stands in packed data: for 64 places at once and for 16, with the flags of crate flags, and for one.
 ghost use Prim.Native.Nat.{_+_, _≤_, _<_};
 ghost use mathlib.Core.Path.{_≡_};
 ghost use lib.ListN.{length, getD};

@@ -6,7 +6,7 @@ use Rattle.packed.specs.Unpacking.{lengthCounted}
 use Rattle.packed.specs.declared.Unpacked.{Unpacked}
 use Rattle.packed.specs.declared.Unpacked.the-variants.{WrongLength, Malformed}
 
--- the answer where o bytes are counted, the part has no room for more, and data are left
+-- o bytes counted, and then what data stand for: a bad code, or the length of all; `WrongLength` here whether it is right or not
 abbrev pub over : ℕ → Found → Unpacked
 over o (malformed i) = Malformed i
 over o (bytes xs) = WrongLength (lengthCounted (o + length xs))

@@ -1,8 +1,7 @@
 // The run-length code of .Z80 files, over any bytes: document 01, "Packed data". It knows nothing of a Spectrum.
 // Here is what it means, and no function. What stands above relies on specs/Unpacking, specs/Packing and the laws of specs/Packed/Promise.
 
-// The answer of unpacking; another length with that length, counted no further than 65,536; malformed data with the offset of the first
-// bad code.
+// The answer of unpacking; another length with that length, at most 65,536 of it; malformed data with the offset of the first bad code.
 pub enum Unpacked {
     Good,
     WrongLength(usize),

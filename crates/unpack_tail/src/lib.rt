@@ -58,7 +58,7 @@ pub fn refused_part(dst: &mut [u8], why: Unpacked) -> Unpacked
     why
 }
 
-// A length, counted no further than 65,536.
+// A length, or 65,536 where it is longer.
 pub fn up_to(n: usize) -> usize
     ensures { λ r. ⌜ r ≡ lengthCounted n ⌝ }
 {

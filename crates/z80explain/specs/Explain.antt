@@ -1,5 +1,5 @@
--- Document 02, A3: "A new call takes a .Z80 file, no area, and gives the number, the offset, the block's ordinal from 1, and two figures, found and
--- due." Header, blocks and v1 body are refused here by the definitions that reading is made of; which figures each number has is in
+-- Document 02, A3: "A new call takes a .Z80 file, no area, and gives the number, the offset, the block's ordinal from 1 .., and two figures, found
+-- and due." Header, blocks and v1 body are refused here by the definitions that reading is made of; which figures each number has is in
 -- `numbers/specs/Faults`.
 use Prim.Native.Nat.{ℕ}
 use mathlib.Core.Path.{_≡_}
