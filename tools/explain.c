@@ -17,6 +17,11 @@ static int put_place(const struct taking *taken, char *text, size_t room)
     return snprintf(text, room, "block %u, at byte %u: ", (unsigned)taken->block, (unsigned)taken->offset);
 }
 
+static const char *bytes_word(uint64_t count)
+{
+    return count == 1 ? "byte" : "bytes";
+}
+
 /* Why a .Z80 file is refused. The head of a block that is refused for its number is there. */
 static int put_reason(const struct taking *taken, char *text, size_t room)
 {
@@ -26,7 +31,8 @@ static int put_reason(const struct taking *taken, char *text, size_t room)
     grouped(taken->due, due);
     switch (taken->number) {
     case SNAP_FILE_SHORT:
-        return snprintf(text, room, "the file is shorter than its header: it has %s bytes, at least %s are due", found, due);
+        return snprintf(text, room, "the file is shorter than its header: it has %s %s, at least %s are due", found,
+                        bytes_word(taken->found), due);
     case SNAP_COUNTER_RANGE:
         return snprintf(text, room, "the %s T state counter is %s, its largest is %s",
                         taken->due == HIGH_COUNTER_MOST ? "high" : "low", found, due);
@@ -39,7 +45,7 @@ static int put_reason(const struct taking *taken, char *text, size_t room)
     case SNAP_MALFORMED_DATA:
         return snprintf(text, room, "packed data are malformed there");
     case SNAP_UNPACKED_LENGTH:
-        return snprintf(text, room, "it holds %s bytes of memory%s, %s are due", found,
+        return snprintf(text, room, "it holds %s %s of memory%s, %s are due", found, bytes_word(taken->found),
                         taken->found == COUNTED_MOST ? " or more" : "", due);
     case SNAP_BLOCK_MISSING:
         return snprintf(text, room, "%s of %s blocks %s there", found, due, taken->found == 1 ? "is" : "are");

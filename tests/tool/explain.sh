@@ -48,7 +48,8 @@ PYTHON
 
 of_header() {
     local length
-    for length in 0 1 29; do
+    head -c 1 "$work/plain1.z80" | explains 2 0 0 1 30 'the file is shorter than its header: it has 1 byte, at least 30 are due'
+    for length in 0 2 29; do
         head -c $length "$work/plain1.z80" |
             explains 2 0 0 $length 30 "the file is shorter than its header: it has $length bytes, at least 30 are due"
     done
@@ -121,6 +122,7 @@ of_lengths() {
     for version in 2 3; do
         start=$((version == 2 ? 55 : 86))
         : | z80_block 8 | as_v$version | explains 12 $start 1 0 16384 "block 1, at byte $start: it holds 0 bytes of memory, 16,384 are due"
+        printf a | z80_block 8 | as_v$version | explains 12 $start 1 1 16384 "block 1, at byte $start: it holds 1 byte of memory, 16,384 are due"
         { zero_page; printf 'sixsix'; } | z80_block 8 | as_v$version | explains 12 $start 1 16390 16384 "block 1, at byte $start: it holds 16,390 bytes of memory, 16,384 are due"
         { zero_page | z80_block 8; zero_page | tail -c +5 | z80_block 4; } | as_v$version |
             explains 12 $((start + 263)) 2 16129 16384 "block 2, at byte $((start + 263)): it holds 16,129 bytes of memory, 16,384 are due"
@@ -156,6 +158,7 @@ of_body() {
     { zero_page; printf "$end"; } | as_v1 | explains 12 30 1 16384 49152 'the body, at byte 30: it holds 16,384 bytes of memory, 49,152 are due'
     { long_data 30000; printf "$end"; } | as_v1 | explains 12 30 1 65536 49152 'the body, at byte 30: it holds 65,536 bytes of memory or more, 49,152 are due'
     head -c 30 "$work/plain1.z80" | explains 12 30 1 0 49152 'the body, at byte 30: it holds 0 bytes of memory, 49,152 are due'
+    head -c 31 "$work/plain1.z80" | explains 12 30 1 1 49152 'the body, at byte 30: it holds 1 byte of memory, 49,152 are due'
     head -c -1 "$work/plain1.z80" | explains 12 30 1 49151 49152 'the body, at byte 30: it holds 49,151 bytes of memory, 49,152 are due'
     { cat "$work/plain1.z80"; head -c 16384 /dev/zero; } | explains 12 30 1 65536 49152 'the body, at byte 30: it holds 65,536 bytes of memory or more, 49,152 are due'
     { cat "$work/plain1.z80"; head -c 100000 /dev/zero; } | explains 12 30 1 65536 49152 'the body, at byte 30: it holds 65,536 bytes of memory or more, 49,152 are due'
