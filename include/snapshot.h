@@ -241,8 +241,8 @@ uint32_t snap_z80_read(const uint8_t *file, size_t file_len,
  * lengths, its *offset, the ordinal of the block, and two figures.
  *
  *     number          *block              *found                                     *due
- *      2              0                   the length of the file                     the least needed: 30, 32, 55 or 86
- *      6              0                   the first bad counter, low before high     the largest that it may be
+ *      2              0                   the length of the file                     the length not reached: 30, 32, 55 or 86
+ *      6              0                   the counter out of range                   the largest that it may be
  *      8, 9, 10, 11   that of the block   0                                          0
  *     12              that of the block   what it unpacks to, 65,536 where more      16,384; in v1 49,152
  *     13              0                   how many blocks are there                  3 or 8
@@ -251,7 +251,7 @@ uint32_t snap_z80_read(const uint8_t *file, size_t file_len,
  *
  * Blocks are counted from 1 as they stand in the file, and bytes left over are one more. The body of a v1 file is block 1; one
  * that is not packed unpacks to itself. The low counter's largest is 17,471 for a 48K and 17,726 for a 128K, the high one's
- * 3. Nothing depends on what stood in the four before. 1 and 20 are never answered.
+ * 3; where both are too large it is the low one. Nothing depends on what stood in the four before. 1 and 20 are never answered.
  */
 uint32_t snap_z80_explain(const uint8_t *file, size_t file_len,
                           uint64_t *offset, uint64_t *block, uint64_t *found, uint64_t *due);
