@@ -117,7 +117,7 @@ void print_json(FILE *to, const char *file, const struct snapshot *opened)
     fputs("}\n", to);
 }
 
-/* The length unwrapped is null in a file without a wrapper. A file that is accepted is refused as 0. */
+/* The length unwrapped is null in a file without a wrapper. `refused` is 0 for a file that is accepted. */
 void print_json_taking(FILE *to, const char *file, const struct taking *taken)
 {
     char hint[HINT_SIZE], explanation[EXPLANATION_SIZE];

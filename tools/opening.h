@@ -23,7 +23,7 @@ struct snapshot {
 
 /* format.c: what the bytes of a .Z80 file say of themselves. */
 #define HINT_SIZE 200u
-/* 1, 2 or 3, of a file that is accepted. */
+/* 1, 2 or 3; it counts only where the header is accepted. */
 unsigned version_of(const uint8_t *file, size_t length);
 /* A 48K machine with modified hardware. */
 bool says_16k(const uint8_t *file, size_t length);
@@ -56,7 +56,7 @@ struct taking {
     /* as snap_z80_explain gives them; of an SCS file found and due are 0 */
     uint64_t offset, block, found, due;
     enum file_kind kind;
-    /* of a .Z80 file, else 0 */
+    /* of a .Z80 file, else 0; it counts only where the header is accepted */
     unsigned version;
     const uint8_t *bytes;
     size_t length;
