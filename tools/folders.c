@@ -2,10 +2,12 @@
  * snapshot's. */
 #define _XOPEN_SOURCE 700
 #include <dirent.h>
+#include <errno.h>
 #include <stdlib.h>
 #include <string.h>
 #include <strings.h>
 #include <sys/stat.h>
+#include <unistd.h>
 
 #include "checking.h"
 
@@ -52,13 +54,14 @@ static void unread_folder(struct file_list *list, const char *path)
     list->unread++;
 }
 
-/* What stands in a folder. A link is what it leads to, but is not followed into a folder: so none is entered twice. */
+/* What stands in a folder. A link is what it leads to, but is not followed into a folder: so none is entered twice. What is gone
+   since the folder was listed is a file that cannot be opened. */
 enum entry_kind { FILE_ENTRY, FOLDER_ENTRY, LINKED_FOLDER, UNREAD_ENTRY };
 static enum entry_kind kind_of_entry(const char *path)
 {
     struct stat about;
     if (lstat(path, &about) != 0)
-        return UNREAD_ENTRY;
+        return errno == ENOENT ? FILE_ENTRY : UNREAD_ENTRY;
     if (S_ISLNK(about.st_mode))
         return stat(path, &about) == 0 && S_ISDIR(about.st_mode) ? LINKED_FOLDER : FILE_ENTRY;
     return S_ISDIR(about.st_mode) ? FOLDER_ENTRY : FILE_ENTRY;
@@ -101,7 +104,8 @@ static int by_name(const struct dirent **one, const struct dirent **other)
 static void add_folder(struct file_list *list, const char *folder)
 {
     struct dirent **entries;
-    int count = scandir(folder, &entries, is_not_hidden, by_name);
+    /* of a folder that may be listed but not entered nothing can be said but that */
+    int count = access(folder, X_OK) == 0 ? scandir(folder, &entries, is_not_hidden, by_name) : -1;
     if (count < 0) {
         unread_folder(list, folder);
         return;

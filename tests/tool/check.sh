@@ -143,6 +143,35 @@ closed_folders() {
 }
 check "check: a folder and a file that may not be read, and the rest is checked" closed_folders
 
+# a folder that may be listed but not entered is told once, whatever its names are
+listed_folders() {
+    local user status=0
+    user=$(mktemp -d)
+    chmod 755 "$user"
+    cp -r "$tool" "$work/museum" "$user"
+    chmod 444 "$user/museum/b games"
+    as_nobody "$user/snapshot" check --quiet "$user/museum/b games" "$user/museum/c.z80" >"$work/out" 2>"$work/err" || status=$?
+    sed -i "s|$user/||" "$work/err"
+    chmod 755 "$user/museum/b games"
+    rm -rf "$user"
+    [ "$status" -eq 3 ]
+    [ "$(cat "$work/err")" = 'snapshot: museum/b games: cannot be opened: Permission denied' ]
+    [ "$(cat "$work/out")" = '2 files: 1 good, 0 refused, 1 not read' ]
+}
+check "check: a folder that may not be entered is told once" listed_folders
+
+# a link to nothing is told where its name is a snapshot's
+lost_links() {
+    local folder=$work/links
+    rm -rf "$folder"
+    mkdir "$folder"
+    ln -s nowhere "$folder/notes"
+    ln -s nowhere "$folder/x.z80"
+    told 3 '1 file: 0 good, 0 refused, 1 not read' "$folder"
+    [ "$(cat "$work/err")" = "snapshot: $folder/x.z80: cannot be opened: No such file or directory" ]
+}
+check "check: a link to nothing is not read, and none is told whose name is no snapshot's" lost_links
+
 odd_names() {
     local name=$'a\nb\e[31m\xff "q" \\.z80' folder=$work/odd
     rm -rf "$folder"
@@ -220,7 +249,20 @@ deep_folders() {
 1 file: 1 good, 0 refused" ]
     rm -rf "$work/deep"
 }
+# the seventeenth is beyond the longest path that a system call takes
+deepest_folders() {
+    local folder=$work/deepest name level
+    name=$(printf 'd%.0s' {1..250})
+    rm -rf "$folder"
+    mkdir "$folder"
+    cp samples/museum-48k.z80 "$folder"
+    (cd "$folder" && for level in {1..17}; do mkdir "$name" && cd "./$name"; done)
+    told 3 '2 files: 1 good, 0 refused, 1 not read' "$folder"
+    [ "$(sed 's/.*: //' "$work/err")" = 'File name too long' ]
+    rm -rf "$folder"
+}
 check "check: folders in folders, 300 deep" deep_folders
+check "check: a folder whose path is too long is told" deepest_folders
 
 # at_terminal WORDS..: check at a terminal with its standard output in $work/out; what the terminal showed is in $terminal.
 at_terminal() {
