@@ -188,7 +188,7 @@ odd_names() {
     run_tool 1 check -- -rf
     [ "$(cat "$work/out")" = "-rf: refused, 2: the file is shorter than its header: it has 40 bytes, at least 86 are due" ]
 }
-check "check: names with odd characters are shown on one line, and are whole in JSON" odd_names
+check "check: names with odd characters are shown on one line; in JSON they are whole, but a byte that is no UTF-8 is U+FFFD" odd_names
 
 from_a_pipe() {
     as_input 0 samples/museum-48k.z80 check - "$work/museum/a.z80"
