@@ -6,12 +6,13 @@
 #define GZIP_LONG "longer than 5,242,880 bytes, the most that is read of a file in gzip"
 #define UNWRAPPED "unwrapped, it is "
 
-/* What is wrong with a length, or NULL. */
-static const char *too_long(const uint8_t *bytes, size_t length, bool unwrapped)
+/* What is wrong with a length, or NULL. What is only looked through may be longer than any .Z80 file that can be opened. */
+static const char *too_long(const uint8_t *bytes, size_t length, bool unwrapped, bool is_opened)
 {
     if (is_scs(bytes, length))
         return length <= INPUT_MOST ? NULL : unwrapped ? UNWRAPPED SCS_LONG : SCS_LONG;
-    return length <= SNAP_READ_MOST ? NULL : unwrapped ? UNWRAPPED Z80_LONG : Z80_LONG;
+    size_t most = is_opened ? SNAP_READ_MOST : INPUT_MOST;
+    return length <= most ? NULL : unwrapped ? UNWRAPPED Z80_LONG : Z80_LONG;
 }
 
 /* Only what is opened needs an area; why a file is refused is asked for afterwards. */
@@ -38,9 +39,9 @@ static void take_scs(struct taking *taken, struct snapshot *opened)
 static struct taking take_plain(const uint8_t *bytes, size_t length, bool unwrapped, struct snapshot *opened)
 {
     bool scs = is_scs(bytes, length);
-    struct taking taken = {.fault = too_long(bytes, length, unwrapped), .kind = scs ? SCS_FILE : Z80_FILE,
-                           .version = scs ? 0 : version_of(bytes, length), .bytes = bytes, .length = length,
-                           .unwrapped = unwrapped};
+    struct taking taken = {.fault = too_long(bytes, length, unwrapped, opened != NULL),
+                           .kind = scs ? SCS_FILE : Z80_FILE, .version = scs ? 0 : version_of(bytes, length),
+                           .bytes = bytes, .length = length, .unwrapped = unwrapped};
     if (taken.fault == NULL)
         (scs ? take_scs : take_z80)(&taken, opened);
     return taken;
@@ -67,7 +68,7 @@ static struct taking take_wrapped(const uint8_t *file, size_t length, struct sna
     return taken;
 }
 
-/* Registers may look like a wrapper: what is no whole one may be a .Z80 file. */
+/* Registers may look like a wrapper: what is no whole one may be a .Z80 file, and is one where that is accepted. */
 static struct taking take_either(const uint8_t *file, size_t length, struct snapshot *opened)
 {
     if (!begins_as_gzip(file, length))

@@ -111,12 +111,41 @@ wrapped_faults() {
     head -c 1000 "$work/48.scs.gz" >"$work/cut.gz"
     told 3 '2 files: 1 good, 0 refused, 1 not read' "$work/cut.gz" samples/museum-48k.z80
     [ "$(cat "$work/err")" = "snapshot: $work/cut.gz: its gzip wrapper is cut short" ]
-    head -c 524383 /dev/zero >"$work/long.z80"
-    told 3 '2 files: 1 good, 0 refused, 1 not read' "$work/long.z80" samples/museum-48k.z80
-    [ "$(cat "$work/err")" = "snapshot: $work/long.z80: longer than any file of its kind" ]
-    rm "$work/long.z80"
+    # a .Z80 file that is refused and begins as a wrapper
+    patched "$work/like.z80" samples/museum-48k.z80 0 1F8B0800
+    head -c 3000 "$work/like.z80" >"$work/cut.z80"
+    told 3 '2 files: 1 good, 0 refused, 1 not read' "$work/cut.z80" "$work/like.z80"
+    [ "$(cat "$work/err")" = "snapshot: $work/cut.z80: its gzip wrapper is damaged" ]
 }
-check "check: a broken wrapper and a file that is too long are not read" wrapped_faults
+check "check: a broken wrapper is not read" wrapped_faults
+
+# explains_long STATUS SUMMARY: standard input, plain and in gzip, beside a good file.
+explains_long() {
+    local file
+    cat >"$work/long.z80"
+    gzip -c "$work/long.z80" >"$work/long.z80.gz"
+    for file in "$work/long.z80" "$work/long.z80.gz"; do told "$1" "$2" "$file" samples/museum-48k.z80; done
+}
+long_files() {
+    local body='the body, at byte 30: it holds 65,536 bytes of memory or more, 49,152 are due' most=5242880 length
+    for length in 524383 600030 $most; do
+        { cat "$work/plain1.z80"; head -c $((length - 49182)) /dev/zero; } | explains_long 1 '2 files: 1 good, 1 refused'
+        [ ! -s "$work/err" ]
+        [ "$(head -n 1 "$work/out")" = "$work/long.z80.gz: refused, 12: unwrapped, $body" ]
+        run_tool 1 check "$work/long.z80"
+        [ "$(cat "$work/out")" = "$work/long.z80: refused, 12: $body" ]
+        run_tool 1 check --json "$work/long.z80"
+        [ "$(jq -c '[.refused, .offset, .block, .found, .due]' "$work/out")" = '[12,30,1,65536,49152]' ]
+    done
+    { cat samples/museum-48k.z80; head -c 600000 /dev/zero; } | explains_long 1 '2 files: 1 good, 1 refused'
+    grep -qF ': refused, 9: unwrapped, block 4, at byte 3621: its number is 0' "$work/out"
+    head -c $((most + 1)) /dev/zero | explains_long 3 '2 files: 1 good, 0 refused, 1 not read'
+    [ "$(cat "$work/err")" = "snapshot: $work/long.z80.gz: unwrapped, it is longer than any file of its kind" ]
+    run_tool 3 check "$work/long.z80"
+    [ "$(cat "$work/err")" = "snapshot: $work/long.z80: longer than any file of its kind" ]
+    rm "$work"/long.z80*
+}
+check "check: a .Z80 file that is longer than any good one is explained, up to 5,242,880 bytes" long_files
 
 no_snapshots() {
     told 0 '0 files: 0 good, 0 refused' "$work/museum/empty"
