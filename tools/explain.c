@@ -17,6 +17,13 @@ static int put_place(const struct taking *taken, char *text, size_t room)
     return snprintf(text, room, "block %u, at byte %u: ", (unsigned)taken->block, (unsigned)taken->offset);
 }
 
+/* Whether it is the body of a version 1 file that is not packed: bit 5 of byte 12, where 255 counts as 1. */
+static bool is_plain_body(const struct taking *taken)
+{
+    uint8_t flags = taken->bytes[SNAP_AT_FLAGS];
+    return taken->version == 1 && (flags == 255 || (flags & 32) == 0);
+}
+
 static const char *bytes_word(uint64_t count)
 {
     return count == 1 ? "byte" : "bytes";
@@ -45,8 +52,8 @@ static int put_reason(const struct taking *taken, char *text, size_t room)
     case SNAP_MALFORMED_DATA:
         return snprintf(text, room, "packed data are malformed there");
     case SNAP_UNPACKED_LENGTH:
-        return snprintf(text, room, "it holds %s %s of memory%s, %s are due", found, bytes_word(taken->found),
-                        taken->found == COUNTED_MOST ? " or more" : "", due);
+        return snprintf(text, room, "it %s %s %s%s, %s are due", is_plain_body(taken) ? "has" : "unpacks to", found,
+                        bytes_word(taken->found), taken->found == COUNTED_MOST ? " or more" : "", due);
     case SNAP_BLOCK_MISSING:
         return snprintf(text, room, "%s of %s blocks %s there", found, due, taken->found == 1 ? "is" : "are");
     case SNAP_END_MARKER:

@@ -127,7 +127,7 @@ explains_long() {
     for file in "$work/long.z80" "$work/long.z80.gz"; do told "$1" "$2" "$file" samples/museum-48k.z80; done
 }
 long_files() {
-    local body='the body, at byte 30: it holds 65,536 bytes of memory or more, 49,152 are due' most=5242880 length
+    local body='the body, at byte 30: it has 65,536 bytes or more, 49,152 are due' most=5242880 length
     for length in 524383 600030 $most; do
         { cat "$work/plain1.z80"; head -c $((length - 49182)) /dev/zero; } | explains_long 1 '2 files: 1 good, 1 refused'
         [ ! -s "$work/err" ]

@@ -121,15 +121,15 @@ of_lengths() {
     local version start
     for version in 2 3; do
         start=$((version == 2 ? 55 : 86))
-        : | z80_block 8 | as_v$version | explains 12 $start 1 0 16384 "block 1, at byte $start: it holds 0 bytes of memory, 16,384 are due"
-        printf a | z80_block 8 | as_v$version | explains 12 $start 1 1 16384 "block 1, at byte $start: it holds 1 byte of memory, 16,384 are due"
-        { zero_page; printf 'sixsix'; } | z80_block 8 | as_v$version | explains 12 $start 1 16390 16384 "block 1, at byte $start: it holds 16,390 bytes of memory, 16,384 are due"
+        : | z80_block 8 | as_v$version | explains 12 $start 1 0 16384 "block 1, at byte $start: it unpacks to 0 bytes, 16,384 are due"
+        printf a | z80_block 8 | as_v$version | explains 12 $start 1 1 16384 "block 1, at byte $start: it unpacks to 1 byte, 16,384 are due"
+        { zero_page; printf 'sixsix'; } | z80_block 8 | as_v$version | explains 12 $start 1 16390 16384 "block 1, at byte $start: it unpacks to 16,390 bytes, 16,384 are due"
         { zero_page | z80_block 8; zero_page | tail -c +5 | z80_block 4; } | as_v$version |
-            explains 12 $((start + 263)) 2 16129 16384 "block 2, at byte $((start + 263)): it holds 16,129 bytes of memory, 16,384 are due"
+            explains 12 $((start + 263)) 2 16129 16384 "block 2, at byte $((start + 263)): it unpacks to 16,129 bytes, 16,384 are due"
         # 65,535 and 65,536 are the last two that are counted
-        long_data 257 | z80_block 8 | as_v$version | explains 12 $start 1 65535 16384 "block 1, at byte $start: it holds 65,535 bytes of memory, 16,384 are due"
-        { long_data 257; echo; } | z80_block 8 | as_v$version | explains 12 $start 1 65536 16384 "block 1, at byte $start: it holds 65,536 bytes of memory or more, 16,384 are due"
-        long_data 16383 | z80_block 8 | as_v$version | explains 12 $start 1 65536 16384 "block 1, at byte $start: it holds 65,536 bytes of memory or more, 16,384 are due"
+        long_data 257 | z80_block 8 | as_v$version | explains 12 $start 1 65535 16384 "block 1, at byte $start: it unpacks to 65,535 bytes, 16,384 are due"
+        { long_data 257; echo; } | z80_block 8 | as_v$version | explains 12 $start 1 65536 16384 "block 1, at byte $start: it unpacks to 65,536 bytes or more, 16,384 are due"
+        long_data 16383 | z80_block 8 | as_v$version | explains 12 $start 1 65536 16384 "block 1, at byte $start: it unpacks to 65,536 bytes or more, 16,384 are due"
     done
 }
 check "check: the sentence of 12 has both lengths, counted up to 65,536" of_lengths
@@ -155,13 +155,13 @@ of_body() {
     patched "$work/header.z80" "$work/plain1.z80" 29 03
     explains 5 0 0 0 0 'the interrupt mode is 3' <"$work/header.z80"
     { printf 'ab\xED\xED\0c'; printf "$end"; } | as_v1 | explains 11 32 1 0 0 'the body, at byte 32: packed data are malformed there'
-    { zero_page; printf "$end"; } | as_v1 | explains 12 30 1 16384 49152 'the body, at byte 30: it holds 16,384 bytes of memory, 49,152 are due'
-    { long_data 30000; printf "$end"; } | as_v1 | explains 12 30 1 65536 49152 'the body, at byte 30: it holds 65,536 bytes of memory or more, 49,152 are due'
-    head -c 30 "$work/plain1.z80" | explains 12 30 1 0 49152 'the body, at byte 30: it holds 0 bytes of memory, 49,152 are due'
-    head -c 31 "$work/plain1.z80" | explains 12 30 1 1 49152 'the body, at byte 30: it holds 1 byte of memory, 49,152 are due'
-    head -c -1 "$work/plain1.z80" | explains 12 30 1 49151 49152 'the body, at byte 30: it holds 49,151 bytes of memory, 49,152 are due'
-    { cat "$work/plain1.z80"; head -c 16384 /dev/zero; } | explains 12 30 1 65536 49152 'the body, at byte 30: it holds 65,536 bytes of memory or more, 49,152 are due'
-    { cat "$work/plain1.z80"; head -c 100000 /dev/zero; } | explains 12 30 1 65536 49152 'the body, at byte 30: it holds 65,536 bytes of memory or more, 49,152 are due'
+    { zero_page; printf "$end"; } | as_v1 | explains 12 30 1 16384 49152 'the body, at byte 30: it unpacks to 16,384 bytes, 49,152 are due'
+    { long_data 30000; printf "$end"; } | as_v1 | explains 12 30 1 65536 49152 'the body, at byte 30: it unpacks to 65,536 bytes or more, 49,152 are due'
+    head -c 30 "$work/plain1.z80" | explains 12 30 1 0 49152 'the body, at byte 30: it has 0 bytes, 49,152 are due'
+    head -c 31 "$work/plain1.z80" | explains 12 30 1 1 49152 'the body, at byte 30: it has 1 byte, 49,152 are due'
+    head -c -1 "$work/plain1.z80" | explains 12 30 1 49151 49152 'the body, at byte 30: it has 49,151 bytes, 49,152 are due'
+    { cat "$work/plain1.z80"; head -c 16384 /dev/zero; } | explains 12 30 1 65536 49152 'the body, at byte 30: it has 65,536 bytes or more, 49,152 are due'
+    { cat "$work/plain1.z80"; head -c 100000 /dev/zero; } | explains 12 30 1 65536 49152 'the body, at byte 30: it has 65,536 bytes or more, 49,152 are due'
     zero_page | as_v1 | explains 14 290 1 0 0 'the body, at byte 290: the file ends without its end marker'
 }
 check "check: the sentences of a version 1 file speak of its body" of_body
