@@ -122,23 +122,7 @@ module _ (model : Model) (seen : List Bool) (file : List ℕ) (at : ℕ) where
       first true t = record { block = block-tests ∙ rw t }
       first false t = second (ltb-false _ _ t) (ltb (length file - at - 3) size) refl
 
--- a page from data as they are
-pub fills-plain : (plain : Bool) (src before after : List ℕ) → plain ≡ true → length src ≡ length before
-    → after ≡ take (length src) src ++ drop (length src) before → Fills plain src before after Good
-fills-plain plain src before after e l q =
-    record {
-      answer = rw (e, eq-eqb _ _ l);
-      memory = rw (e, eq-eqb _ _ l) (q ∙ rw (take-length src, drop-of-length-le before {i = length src} (omega arith), append-nil));
-    }
-
-pub fills-other : (plain : Bool) (src before after : List ℕ) (n : ℕ) → plain ≡ true → (length src ≡ length before → ⊥) → n ≡ lengthCounted (length src)
-    → after ≡ replicate (length before) 0 → Fills plain src before after (WrongLength n)
-fills-other plain src before after n e l c q = record { answer = rw (e, ne-eqb _ _ l) (ap WrongLength c); memory = rw (e, ne-eqb _ _ l) q }
-
-pub fills-packed : (plain : Bool) (src before after : List ℕ) (r : Unpacked) → plain ≡ false → Unpacks (unpacked src) (length before) r after → Fills plain src before after r
-fills-packed plain src before after r e u = record { answer = rw e (u .answer); memory = rw e (u .memory) }
-
--- the same answers without a page
+-- the answers of `would_fill`, and of `fill_page` with the page that is left
 module _ (plain : Bool) (src : List ℕ) (due : ℕ) where
   pub would-plain : plain ≡ true → length src ≡ due → Good ≡ answerOf (contents plain src) due
   would-plain e l = rw (e, eq-eqb _ _ l)
@@ -148,3 +132,18 @@ module _ (plain : Bool) (src : List ℕ) (due : ℕ) where
 
   pub would-packed : (r : Unpacked) → plain ≡ false → r ≡ answerOf (unpacked src) due → r ≡ answerOf (contents plain src) due
   would-packed r e q = rw e q
+
+pub fills-plain : (plain : Bool) (src before after : List ℕ) → plain ≡ true → length src ≡ length before
+    → after ≡ take (length src) src ++ drop (length src) before → Fills plain src before after Good
+fills-plain plain src before after e l q =
+    record {
+      answer = would-plain plain src (length before) e l;
+      memory = rw (e, eq-eqb _ _ l) (q ∙ rw (take-length src, drop-of-length-le before {i = length src} (omega arith), append-nil));
+    }
+
+pub fills-other : (plain : Bool) (src before after : List ℕ) (n : ℕ) → plain ≡ true → (length src ≡ length before → ⊥) → n ≡ lengthCounted (length src)
+    → after ≡ replicate (length before) 0 → Fills plain src before after (WrongLength n)
+fills-other plain src before after n e l c q = record { answer = would-other plain src (length before) n e l c; memory = rw (e, ne-eqb _ _ l) q }
+
+pub fills-packed : (plain : Bool) (src before after : List ℕ) (r : Unpacked) → plain ≡ false → Unpacks (unpacked src) (length before) r after → Fills plain src before after r
+fills-packed plain src before after r e u = record { answer = would-packed plain src (length before) r e (u .answer); memory = rw e (u .memory) }
