@@ -19,8 +19,8 @@ use Rattle.clock.specs.Clock.{positionOf, lowOf, highOf}
 use Rattle.spectrum.specs.Valid.{Typed, Valid}
 use Rattle.clock.proofs.Counters.{position-back}
 use Rattle.header.specs.declared.Version.the-variants.{V3}
-use Rattle.header_read.specs.Reading.{pairsBefore, pairsOf, videoOf, switchesOf, carried, soundOf, machineOf}
-use Rattle.header_pieces.specs.Pieces.{videoBits, counterBytes}
+use Rattle.header_read.specs.Reading.{pairsBefore, pairsOf, videoOf, switchesOf, carried, chipOf, withChip, soundOf, machineOf}
+use Rattle.header_pieces.specs.Pieces.{videoBits, chipBit, byte37, counterBytes}
 use Rattle.header_write.specs.Writing.{headerOf}
 
 pub word-back : (n : ℕ) → n < 65536 → n % 256 + 256 * (n / 256 % 256) ≡ n
@@ -89,19 +89,29 @@ skip p t n j e = rw (← e) (getD-append-add p t j 0)
 skip-drop : (p t : List ℕ) (n j : ℕ) → length p ≡ n → drop (n + j) (p ++ t) ≡ drop j t
 skip-drop p t n j e = rw (← e) (drop-append-add p t j)
 
-carried-back : (k : Model) (b : ℕ) → (k ≡ K48 → b ≡ 0) → carried k b ≡ b
+pub carried-back : (k : Model) (b : ℕ) → (k ≡ K48 → b ≡ 0) → carried k b ≡ b
 carried-back K48 b h = sym (h refl)
 carried-back K128 b h = refl
 
-silent-back : (k : Model) (l s : List ℕ) → (k ≡ K48 → l ≡ replicate 16 0) → take 16 (drop 39 s) ≡ l → soundOf k s ≡ l
-silent-back K48 l s h e = sym (h refl)
-silent-back K128 l s h e = e
+outfffd-back : (c : Bool) (b : ℕ) → (c ≡ false → b ≡ 0) → withChip c b ≡ b
+outfffd-back true b h = refl
+outfffd-back false b h = sym (h refl)
 
-pub bit37 : (a b : Bool) → (bitAt (bitOf a % 2 + 2 * (bitOf b % 2)) 1 ≡ a) × (bitAt (bitOf a % 2 + 2 * (bitOf b % 2)) 2 ≡ b)
-bit37 true true = (refl, refl)
-bit37 true false = (refl, refl)
-bit37 false true = (refl, refl)
-bit37 false false = (refl, refl)
+silent-back : (c : Bool) (l s : List ℕ) → (c ≡ false → l ≡ replicate 16 0) → take 16 (drop 39 s) ≡ l → soundOf c s ≡ l
+silent-back true l s h e = e
+silent-back false l s h e = sym (h refl)
+
+-- the low two bits of a byte
+module _ (a b : Bool) (c n : ℕ) (e : n ≡ bitOf a % 2 + 2 * (bitOf b % 2) + 4 * c) where
+  pub first-bit : bitAt n 1 ≡ a
+  first-bit = let q : n / 1 % 2 ≡ bitOf a % 2 = omega arith in ap (λ (x : ℕ). eqb x 1) q ∙ is-one a
+
+  pub second-bit : bitAt n 2 ≡ b
+  second-bit = let q : n / 2 % 2 ≡ bitOf b % 2 = omega arith in ap (λ (x : ℕ). eqb x 1) q ∙ is-one b
+
+chip-back : (a b chip : Bool) (k : Model) → (k ≡ K128 → chip ≡ true) → chipOf k (byte37 a b (chipBit k chip)) ≡ chip
+chip-back a b chip K48 h = let q : byte37 a b (bitOf chip) / 4 % 2 ≡ bitOf chip % 2 = omega arith in ap (λ (n : ℕ). eqb n 1) q ∙ is-one chip
+chip-back a b chip K128 h = sym (h refl)
 
 high-small : (k : Model) (p : ℕ) → highOf k p % 256 ≡ highOf k p
 high-small K48 p = omega arith
@@ -173,6 +183,10 @@ module _ (m : Machine) (rest : List ℕ) (t : Typed m) where
     pub machine-back : machineOf V3 (m .model) (m .attachment) whole ≡ m
     unfolding machineOf headerOf
     machine-back =
+        let a = m .remulation in
+        let b = m .ldiremulation in
+        let c = chipBit (m .model) (m .chip) % 2 in
+        let chip = chip-back a b (m .chip) (m .model) (v .chip) in
         λ k. record {
           pairs = pairs-back k;
           i = m .i;
@@ -182,10 +196,11 @@ module _ (m : Machine) (rest : List ℕ) (t : Typed m) where
           attachment = m .attachment;
           out7ffd = carried-back (m .model) (m .out7ffd) (v .out7ffd) k;
           byte36 = m .byte36;
-          remulation = bit37 (m .remulation) (m .ldiremulation) .0 k;
-          ldiremulation = bit37 (m .remulation) (m .ldiremulation) .1 k;
-          outfffd = carried-back (m .model) (m .outfffd) (v .outfffd) k;
-          sound = silent-back (m .model) (m .sound) whole (v .silent) sound-back k;
+          remulation = first-bit a b c _ refl k;
+          ldiremulation = second-bit a b c _ refl k;
+          chip = chip k;
+          outfffd = (ap (λ (x : Bool). withChip x (m .outfffd)) chip ∙ outfffd-back (m .chip) (m .outfffd) (v .outfffd)) k;
+          sound = (ap (λ (x : Bool). soundOf x whole) chip ∙ silent-back (m .chip) (m .sound) whole (v .silent) sound-back) k;
           position = ((λ j. positionOf (m .model) (low-back j) (high-back j)) ∙ position-back (m .model) (m .position) (v .position)) k;
           side59 = side59-back k;
           side = side-back k;

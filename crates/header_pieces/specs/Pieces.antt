@@ -66,11 +66,20 @@ modeByte K128 Nothing = 4
 modeByte K128 InterfaceI = 5
 modeByte K128 Mgt = 6
 
--- bytes 34 to 38. "37: bits 0 and 1 kept, the rest written 0."
+-- "Writing sets bit 2 exactly for a 48K machine with the chip."
+abbrev pub chipBit : Model → Bool → ℕ
+chipBit K48 chip = bitOf chip
+chipBit K128 chip = 0
+
+-- byte 37: R emulation, LDIR emulation, the sound chip, "the rest written 0"
+abbrev pub byte37 : Bool → Bool → ℕ → ℕ
+byte37 remulation ldiremulation chip = bitOf remulation % 2 + 2 * (bitOf ldiremulation % 2) + 4 * (chip % 2)
+
+-- bytes 34 to 38
 abbrev pub portBytes : Machine → List ℕ
 portBytes m =
     modeByte (m .model) (m .attachment) ∷ m .out7ffd ∷ m .byte36
-    ∷ (bitOf (m .remulation) % 2 + 2 * (bitOf (m .ldiremulation) % 2)) ∷ m .outfffd ∷ []
+    ∷ byte37 (m .remulation) (m .ldiremulation) (chipBit (m .model) (m .chip)) ∷ m .outfffd ∷ []
 
 -- bytes 55 to 60: the counters, "58 ignored, written 0", 59, "60 must be 0"
 abbrev pub counterBytes : Model → ℕ → ℕ → List ℕ

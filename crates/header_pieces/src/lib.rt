@@ -6,7 +6,7 @@ use spectrum::Switches;
 use spectrum::Video;
 ghost use mathlib.Core.Path.{_≡_};
 ghost use Rattle.slices.specs.Bytes.{bitOf};
-ghost use Rattle.header_pieces.specs.Pieces.{firstRegisters, otherRegisters, videoBits, switchBytes, modeByte, portBytes, counterBytes};
+ghost use Rattle.header_pieces.specs.Pieces.{firstRegisters, otherRegisters, videoBits, switchBytes, modeByte, chipBit, portBytes, counterBytes};
 
 pub fn first_registers(p: [u16; 12], i: u8, r: u8, border: u8) -> [u8; 13]
     ensures { λ q. ⌜ q ≡ firstRegisters p i r border ⌝ }
@@ -113,6 +113,15 @@ fn mode_byte(model: Model, attachment: Attachment) -> u8
     }
 }
 
+fn chip_bit(model: Model, chip: bool) -> u8
+    ensures { λ q. ⌜ q ≡ chipBit model chip ⌝ }
+{
+    match model {
+        Model::K48 => bit(chip),
+        Model::K128 => 0,
+    }
+}
+
 pub fn port_bytes(m: Machine) -> [u8; 5]
     ensures { λ q. ⌜ q ≡ portBytes m ⌝ }
 {
@@ -122,7 +131,7 @@ pub fn port_bytes(m: Machine) -> [u8; 5]
         mode_byte(model, attachment),
         m.out7ffd,
         m.byte36,
-        bit(m.remulation) % 2 + 2 * (bit(m.ldiremulation) % 2),
+        bit(m.remulation) % 2 + 2 * (bit(m.ldiremulation) % 2) + 4 * (chip_bit(model, m.chip) % 2),
         m.outfffd,
     ]
 }

@@ -1,6 +1,7 @@
 -- A machine read off bytes is as the types of the code say.
 use Prim.Native.Nat.{ℕ, zero, suc, _+_, _*_, _%_, _≤_, _<_}
 use mathlib.Core.Path.{_≡_, refl}
+use mathlib.Core.Bool.{Bool, true, false}
 use mathlib.Core.List.{List}
 use native.Mathlib.Omega.{arith}
 use lib.ListN.{length, getD, length-take, length-drop}
@@ -14,6 +15,7 @@ use Rattle.header.specs.declared.Version.the-variants.{V1, V2, V3}
 use Rattle.header.specs.Heads.{byte12Of, headerLength}
 use Rattle.header.specs.Inner.{Readable}
 use Rattle.header_read.specs.Reading.{pcAt, pairsBefore, carried, soundOf, sideOf, machineOf}
+use Rattle.header_read.proofs.ReadSteps.{chip-long}
 
 module _ (s : List ℕ) (h : (i : ℕ) → getD s i 0 < 256) where
   word-small : (i j : ℕ) → getD s i 0 + 256 * getD s j 0 < 65536
@@ -44,9 +46,9 @@ module _ (s : List ℕ) (h : (i : ℕ) → getD s i 0 < 256) where
   pc-small V2 = word-small 32 33
   pc-small V3 = word-small 32 33
 
-  sixteen : (k : Model) → (k ≡ K128 → 55 ≤ length s) → length (soundOf k s) ≡ 16
-  sixteen K48 l = refl
-  sixteen K128 l = let q = l refl in simp (length-take, length-drop) (omega arith)
+  sixteen : (c : Bool) → (c ≡ true → 55 ≤ length s) → length (soundOf c s) ≡ 16
+  sixteen true l = let q = l refl in simp (length-take, length-drop) (omega arith)
+  sixteen false l = refl
 
   twenty-five : (v : Version) → headerLength v ≤ length s → length (sideOf v s) ≡ 25
   twenty-five V1 l = refl
@@ -68,6 +70,6 @@ module _ (s : List ℕ) (h : (i : ℕ) → getD s i 0 < 256) where
         count = twelve (wordAt s (pcAt v));
         r8 = r-small (byte12Of s);
         out = out-small k;
-        sound = sixteen k (l .later);
+        sound = sixteen _ (chip-long v k s _ _ l refl refl);
         side = twenty-five v (l .long);
       }

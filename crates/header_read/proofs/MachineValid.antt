@@ -36,6 +36,7 @@ read-valid v model a s i =
       joystick = omega arith;
       position = position-below v model s;
       out7ffd = λ e. rw e;
+      chip = λ e. rw e;
       outfffd = λ e. rw e;
       silent = λ e. rw e;
     }

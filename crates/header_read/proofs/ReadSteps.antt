@@ -1,20 +1,22 @@
 -- The parts of a machine, at each return of the code that reads them.
 use Prim.Native.Nat.{ℕ, _+_, _-_, _<_, _≤_}
 use native.Mathlib.Omega.{arith}
-use mathlib.Core.Path.{_≡_, ap, _∙_}
+use mathlib.Core.Path.{_≡_, refl, sym, ap, _∙_}
+use mathlib.Core.Bool.{Bool, true}
 use mathlib.Core.List.{List}
-use lib.ListN.{take, drop}
+use lib.ListN.{length, take, drop}
 use borrow.Author.Tests.{ne-eqb}
-use Rattle.slices.specs.Bytes.{at, wordAt}
+use Rattle.slices.specs.Bytes.{at, wordAt, bitAt}
 use Rattle.pages.specs.declared.Model.{Model}
-use Rattle.pages.specs.declared.Model.the-variants.{K128}
+use Rattle.pages.specs.declared.Model.the-variants.{K48, K128}
 use Rattle.spectrum.specs.declared.Video.the-variants.{Normal}
 use Rattle.clock.specs.Clock.{positionOf}
 use Rattle.header.specs.declared.Version.{Version}
 use Rattle.header.specs.declared.Version.the-variants.{V1, V2, V3}
 use Rattle.header.specs.Heads.{headerLength}
+use Rattle.header.specs.Inner.{Readable}
 use Rattle.header.proofs.HeadSteps.{long-30, long-v2, long-v3}
-use Rattle.header_read.specs.Reading.{pcAt, pairsBefore, pairsOf, videoOf, carried, soundOf, afterV1, framePosition, side59Of, sideOf}
+use Rattle.header_read.specs.Reading.{pcAt, pairsBefore, pairsOf, videoOf, carried, afterV1, chipOf, withChip, soundOf, framePosition, side59Of, sideOf}
 
 -- places inside a header
 module _ (v : Version) (n : ℕ) (h : headerLength v ≤ n) where
@@ -45,8 +47,22 @@ module _ (v : Version) (n : ℕ) (h : headerLength v ≤ n) where
   pub inside-side : v ≡ V3 → 61 + 25 ≤ n
   inside-side e = let k = long-v3 v n e h in omega arith
 
-pub inside-sound : (m : Model) (n : ℕ) → m ≡ K128 → (m ≡ K128 → 55 ≤ n) → 39 + 16 ≤ n
-inside-sound m n e f = let k : 55 ≤ n = f e in omega arith
+-- a header that says that the machine has the sound chip has its bytes
+chip-later : (v : Version) (b n : ℕ) → headerLength v ≤ n → bitAt (afterV1 v b) 4 ≡ true → 55 ≤ n
+chip-later V1 b n h e = let z : _≡_ {A = ℕ} 0 1 = cc in omega arith
+chip-later V2 b n h e = h
+chip-later V3 b n h e = omega arith
+
+pub chip-long : (v : Version) (m : Model) (s : List ℕ) (b : ℕ) (c : Bool) → Readable v m s → b ≡ afterV1 v (at s 37) → c ≡ chipOf m b → c ≡ true → 55 ≤ length s
+chip-long v K48 s b c g p q e = chip-later v (at s 37) (length s) (g .long) (ap (λ (x : ℕ). bitAt x 4) (sym p) ∙ sym q ∙ e)
+chip-long v K128 s b c g p q e = g .later refl
+
+module _ (c : Bool) (n : ℕ) (e : c ≡ true) (f : c ≡ true → 55 ≤ n) where
+  pub chip-inside : (place : ℕ) → place < 55 → place < n
+  chip-inside place h = let k : 55 ≤ n = f e in omega arith
+
+  pub inside-sound : 39 + 16 ≤ n
+  inside-sound = let k : 55 ≤ n = f e in omega arith
 
 pub pc-inside : (v : Version) (n p : ℕ) → headerLength v ≤ n → p ≡ pcAt v → p + 1 < n
 pc-inside V1 n p h e = omega arith
@@ -60,8 +76,14 @@ carry-inside m n place e f h = let k : 55 ≤ n = f e in omega arith
 pub carry-128 : (m : Model) (b : ℕ) → m ≡ K128 → b ≡ carried m b
 carry-128 m b e = rw e
 
-pub sound-128 : (m : Model) (s r : List ℕ) → m ≡ K128 → r ≡ take 16 (drop 39 s) → r ≡ soundOf m s
-sound-128 m s r e q = rw e q
+pub chip-48 : (m : Model) (b : ℕ) → m ≡ K48 → bitAt b 4 ≡ chipOf m b
+chip-48 m b e = rw e
+
+pub byte-chip : (c : Bool) (b : ℕ) → c ≡ true → b ≡ withChip c b
+byte-chip c b e = rw e
+
+pub sound-chip : (c : Bool) (s r : List ℕ) → c ≡ true → r ≡ take 16 (drop 39 s) → r ≡ soundOf c s
+sound-chip c s r e q = rw e q
 
 pub after-2 : (v : Version) (b : ℕ) → v ≡ V2 → b ≡ afterV1 v b
 after-2 v b e = rw e

@@ -1,6 +1,6 @@
 -- The machine that a header gives, whatever its version: "Header bytes (v1 has 0 to 29, v2 to 54, v3 to 85)".
 use Prim.Native.Nat.{ℕ, _+_, _*_, _/_, _%_}
-use mathlib.Core.Bool.{not}
+use mathlib.Core.Bool.{Bool, true, false, not}
 use mathlib.Core.List.{List, [], _∷_}
 use lib.ListN.{take, drop, replicate}
 use lib.Dec.{eqb}
@@ -55,20 +55,30 @@ switchesOf s =
       joystick = at s 29 / 64 % 4;
     }
 
--- "In 48K mode these carry nothing: read as 0": bytes 35, 38 and 39-54
+-- byte 35: "In 48K mode these carry nothing: read as 0"
 abbrev pub carried : Model → ℕ → ℕ
 carried K48 b = 0
 carried K128 b = b
-
-abbrev pub soundOf : Model → List ℕ → List ℕ
-soundOf K48 s = replicate 16 0
-soundOf K128 s = take 16 (drop 39 s)
 
 -- "v1 gives 0 for 36 and 37"
 abbrev pub afterV1 : Version → ℕ → ℕ
 afterV1 V1 b = 0
 afterV1 V2 b = b
 afterV1 V3 b = b
+
+-- whether the machine has the sound chip, by byte 37: of a 48K machine bit 2 says so. "A 128K machine always has the chip."
+abbrev pub chipOf : Model → ℕ → Bool
+chipOf K48 b = bitAt b 4
+chipOf K128 b = true
+
+-- with the chip "bytes 38 to 54" are kept; "without, they read as 0"
+abbrev pub withChip : Bool → ℕ → ℕ
+withChip true b = b
+withChip false b = 0
+
+abbrev pub soundOf : Bool → List ℕ → List ℕ
+soundOf true s = take 16 (drop 39 s)
+soundOf false s = replicate 16 0
 
 -- "v1 and v2 give position 0"
 abbrev pub framePosition : Version → Model → List ℕ → ℕ
@@ -92,6 +102,8 @@ sideOf V3 s = take 25 (drop 61 s)
 
 unfoldable pub machineOf : Version → Model → Attachment → List ℕ → Machine
 machineOf version model attachment s =
+    let b = afterV1 version (at s 37) in
+    let c = chipOf model b in
     record {
       pairs = pairsOf version s;
       i = at s 10;
@@ -101,10 +113,11 @@ machineOf version model attachment s =
       attachment = attachment;
       out7ffd = carried model (at s 35);
       byte36 = afterV1 version (at s 36);
-      remulation = bitAt (afterV1 version (at s 37)) 1;
-      ldiremulation = bitAt (afterV1 version (at s 37)) 2;
-      outfffd = carried model (at s 38);
-      sound = soundOf model s;
+      remulation = bitAt b 1;
+      ldiremulation = bitAt b 2;
+      chip = c;
+      outfffd = withChip c (at s 38);
+      sound = soundOf c s;
       position = framePosition version model s;
       side59 = side59Of version s;
       side = sideOf version s;

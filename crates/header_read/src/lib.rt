@@ -7,12 +7,13 @@ use spectrum::Switches;
 use spectrum::Video;
 ghost use Prim.Native.Nat.{_+_, _<_, _≤_};
 ghost use mathlib.Core.Path.{_≡_};
+ghost use mathlib.Core.Bool.{true};
 ghost use lib.ListN.{length, take, drop};
 ghost use Rattle.slices.specs.Bytes.{at};
 ghost use Rattle.pages.specs.declared.Model.the-variants.{K128};
 ghost use Rattle.header.specs.Heads.{headerLength};
 ghost use Rattle.header.specs.Inner.{Readable};
-ghost use Rattle.header_read.specs.Reading.{pcAt, pairsBefore, pairsOf, videoOf, switchesOf, carried, soundOf, afterV1, framePosition, side59Of, noSide, sideOf, machineOf};
+ghost use Rattle.header_read.specs.Reading.{pcAt, pairsBefore, pairsOf, videoOf, switchesOf, carried, afterV1, chipOf, withChip, soundOf, framePosition, side59Of, noSide, sideOf, machineOf};
 
 fn pc_at(version: Version) -> usize
     ensures { λ r. ⌜ r ≡ pcAt version ⌝ }
@@ -113,13 +114,32 @@ fn part25(s: &[u8], from: usize) -> [u8; 25]
     t
 }
 
-fn read_sound(s: &[u8], model: Model) -> [u8; 16]
-    requires { ⌜ (model ≡ K128 → 55 ≤ length (now s)) ⌝ }
-    ensures { λ r. ⌜ r ≡ soundOf model (now (s .entry)) ⌝ }
+// Whether the machine has the sound chip, by byte 37.
+fn read_chip(model: Model, b: u8) -> bool
+    ensures { λ r. ⌜ r ≡ chipOf model b ⌝ }
 {
     match model {
-        Model::K48 => [0u8; 16],
-        Model::K128 => slices::part16(s, 39),
+        Model::K48 => b / 4 % 2 == 1,
+        Model::K128 => true,
+    }
+}
+
+// A byte of the later versions that only a machine with the sound chip carries.
+fn chip_byte(s: &[u8], chip: bool, place: usize) -> u8
+    requires { ⌜ ((chip ≡ true → 55 ≤ length (now s)) × (place < 55)) ⌝ }
+    ensures { λ r. ⌜ r ≡ withChip chip (at (now (s .entry)) place) ⌝ }
+{
+    if chip { s[place] } else { 0 }
+}
+
+fn read_sound(s: &[u8], chip: bool) -> [u8; 16]
+    requires { ⌜ (chip ≡ true → 55 ≤ length (now s)) ⌝ }
+    ensures { λ r. ⌜ r ≡ soundOf chip (now (s .entry)) ⌝ }
+{
+    if chip {
+        slices::part16(s, 39)
+    } else {
+        [0u8; 16]
     }
 }
 
@@ -197,11 +217,12 @@ pub fn read_machine(s: &[u8], version: Version, model: Model, attachment: Attach
     let pairs = read_pairs(s, version);
     let switches = read_switches(s);
     let r = s[11] % 128 + 128 * (header::byte12(s) % 2);
-    let out7ffd = carry(s, model, 35);
     let byte36 = later_byte(s, version, 36);
     let b = later_byte(s, version, 37);
-    let outfffd = carry(s, model, 38);
-    let sound = read_sound(s, model);
+    let chip = read_chip(model, b);
+    let out7ffd = carry(s, model, 35);
+    let outfffd = chip_byte(s, chip, 38);
+    let sound = read_sound(s, chip);
     let position = read_position(s, version, model);
     let side59 = read_side59(s, version);
     let side = read_side(s, version);
@@ -216,6 +237,7 @@ pub fn read_machine(s: &[u8], version: Version, model: Model, attachment: Attach
         byte36: byte36,
         remulation: b / 1 % 2 == 1,
         ldiremulation: b / 2 % 2 == 1,
+        chip: chip,
         outfffd: outfffd,
         sound: sound,
         position: position,

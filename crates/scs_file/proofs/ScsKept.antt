@@ -5,18 +5,18 @@ use native.Mathlib.Nat.{mod-mod, mod-eq-of-lt}
 use mathlib.Core.Path.{_≡_, refl, sym}
 use mathlib.Core.Bool.{true, false}
 use mathlib.Core.List.{List, [], _∷_}
-use lib.ListN.{length, getD, drop, replicate, drop-of-length-le}
+use lib.ListN.{length, getD, drop, drop-of-length-le}
 use lib.Seq.{drop-cons, take-all}
-use Rattle.slices.specs.Bytes.{lowByte, highByte}
+use Rattle.slices.specs.Bytes.{lowByte, highByte, bitOf}
 use Rattle.pages.specs.declared.Model.{Model}
 use Rattle.pages.specs.declared.Model.the-variants.{K48, K128}
 use Rattle.spectrum.specs.declared.Machine.{Machine}
 use Rattle.spectrum.specs.declared.Attachment.the-variants.{Nothing}
 use Rattle.spectrum.specs.Valid.{Typed, Valid, validOf}
 use Rattle.spectrum.proofs.Validity.{valid-says}
-use Rattle.header_read.specs.Reading.{carried, noSide}
-use Rattle.header_canonical.proofs.MachineBack.{word-back, bit37}
-use Rattle.scs_machine.specs.ScsMachine.{scsPairs, scsSwitches, scsSound, scsMachine}
+use Rattle.header_read.specs.Reading.{noSide}
+use Rattle.header_canonical.proofs.MachineBack.{word-back, carried-back, first-bit, second-bit}
+use Rattle.scs_machine.specs.ScsMachine.{scsPairs, scsSwitches, scsMachine}
 use Rattle.scs_pieces.specs.ScsPieces.{scsCpu, scsPorts}
 use Rattle.scs_file.specs.ScsKeeps.{scsKeeps}
 
@@ -29,26 +29,19 @@ words-back : (l : List ℕ) → ((k : ℕ) → getD l k 0 < 65536) → (n i : �
 words-back l h zero i e = sym (drop-of-length-le l {i = i} (omega arith))
 words-back l h (suc n) i e = rw (drop-cons l i 0 (omega arith)) (λ k. word-back (getD l i 0) (h i) k ∷ words-back l h n (suc i) (omega arith) k)
 
-scs-carried-back : (k : Model) (b r : ℕ) → (k ≡ K48 → r ≡ 0) → b ≡ r → carried k b ≡ r
-scs-carried-back K48 b r h e = sym (h refl)
-scs-carried-back K128 b r h e = e
-
 module _ (m : Machine) (t : Typed m) where
   scs-pairs-back : scsPairs (scsCpu m) ≡ m .pairs
   unfolding scsPairs scsCpu
   scs-pairs-back = words-back (m .pairs) (t .pairs) 12 0 (sym (t .count))
 
-  scs-sound-back : (k : Model) → (k ≡ K48 → m .sound ≡ replicate 16 0) → scsSound k (scsPorts m) ≡ m .sound
-  unfolding scsPorts
-  scs-sound-back K48 h = sym (h refl)
-  scs-sound-back K128 h = take-all 16 (m .sound) (omega (arith, t .sound))
-
   module _ (v : Valid m) where
     scs-switches-back : scsSwitches (scsCpu m) (scsPorts m) ≡ scsKeeps m .switches
     unfolding scsSwitches scsCpu scsPorts scsKeeps
     scs-switches-back =
-        let iffs = bit37 (m .switches .iff1) (m .switches .iff2) in
-        cc (iffs .0, iffs .1, mod-eq-of-lt {n = m .switches .im} {m = 4} (omega (arith, v .im)), mod-eq-of-lt (v .border))
+        let a = m .switches .iff1 in
+        let b = m .switches .iff2 in
+        let n = bitOf a % 2 + 2 * (bitOf b % 2) in
+        cc (first-bit a b 0 n (omega arith), second-bit a b 0 n (omega arith), mod-eq-of-lt {n = m .switches .im} {m = 4} (omega (arith, v .im)), mod-eq-of-lt (v .border))
 
     blocks-kept : scsMachine (m .model) (scsCpu m) (scsPorts m) ≡ scsKeeps m
     unfolding scsMachine scsCpu scsPorts scsKeeps
@@ -59,9 +52,10 @@ module _ (m : Machine) (t : Typed m) where
           r = m .r;
           switches = scs-switches-back k;
           model = m .model;
-          out7ffd = scs-carried-back (m .model) (m .out7ffd) (m .out7ffd) (v .out7ffd) refl k;
-          outfffd = scs-carried-back (m .model) (m .outfffd % 16 % 16) (m .outfffd % 16) (λ e. rw (v .outfffd e)) (mod-mod (m .outfffd) 16) k;
-          sound = scs-sound-back (m .model) (v .silent) k;
+          out7ffd = carried-back (m .model) (m .out7ffd) (v .out7ffd) k;
+          chip = true;
+          outfffd = mod-mod (m .outfffd) 16 k;
+          sound = take-all 16 (m .sound) (omega (arith, t .sound)) k;
           attachment = Nothing;
           byte36 = 0;
           remulation = false;
@@ -76,5 +70,4 @@ machine-kept m t h = blocks-kept m t (valid-says m (t .sound) h)
 
 pub keeps-read : (model : Model) (cpu ports : List ℕ) → scsKeeps (scsMachine model cpu ports) ≡ scsMachine model cpu ports
 unfolding scsKeeps scsMachine scsSwitches
-keeps-read K48 cpu ports = refl
-keeps-read K128 cpu ports = rw (mod-mod (getD ports 2 0) 16)
+keeps-read model cpu ports = rw (mod-mod (getD ports 2 0) 16)

@@ -13,7 +13,7 @@ use Rattle.pages.specs.declared.Model.{Model}
 use Rattle.pages.specs.declared.Model.the-variants.{K48, K128}
 use Rattle.spectrum.specs.Valid.{Typed, validOf}
 use Rattle.header_read.specs.Reading.{carried}
-use Rattle.scs_machine.specs.ScsMachine.{scsPairs, scsMode, scsSwitches, scsSound, scsMachine}
+use Rattle.scs_machine.specs.ScsMachine.{scsPairs, scsMode, scsSwitches, scsMachine}
 
 -- of the tests for validity only these two do not compute
 tests : (a b : ℕ) → (a % 4 ≡ 3 → ⊥) → both (ltb (a % 4) 3) (both (ltb (b % 8) 8) true) ≡ true
@@ -49,10 +49,6 @@ carried-small : (k : Model) (b : ℕ) → b < 256 → carried k b < 256
 carried-small K48 b h = omega arith
 carried-small K128 b h = h
 
-scs-sound-long : (k : Model) (ports : List ℕ) → length ports ≡ 19 → length (scsSound k ports) ≡ 16
-scs-sound-long K48 ports l = refl
-scs-sound-long K128 ports l = simp (length-take, length-drop) (omega arith)
-
 pub scs-typed : (model : Model) (cpu ports : List ℕ) → ((i : ℕ) → getD cpu i 0 < 256) → ((i : ℕ) → getD ports i 0 < 256)
     → length ports ≡ 19 → Typed (scsMachine model cpu ports)
 unfolding scsMachine
@@ -62,6 +58,6 @@ scs-typed model cpu ports c p l =
       count = scs-pairs-count cpu;
       r8 = c 25;
       out = carried-small model _ (p 1);
-      sound = scs-sound-long model ports l;
+      sound = simp (length-take, length-drop) (omega arith);
       side = refl;
     }

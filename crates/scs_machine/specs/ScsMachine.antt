@@ -1,11 +1,10 @@
 -- The machine that an SCS file gives: from the 34 bytes of its CPU block and the 19 of its Ports block.
 use Prim.Native.Nat.{ℕ, _+_, _*_, _%_}
-use mathlib.Core.Bool.{false}
+use mathlib.Core.Bool.{true, false}
 use mathlib.Core.List.{List, [], _∷_}
-use lib.ListN.{take, drop, replicate}
+use lib.ListN.{take, drop}
 use Rattle.slices.specs.Bytes.{at, wordAt, bitAt}
 use Rattle.pages.specs.declared.Model.{Model}
-use Rattle.pages.specs.declared.Model.the-variants.{K48, K128}
 use Rattle.spectrum.specs.declared.Machine.{Machine}
 use Rattle.spectrum.specs.declared.Switches.{Switches}
 use Rattle.spectrum.specs.declared.Video.the-variants.{Normal}
@@ -41,12 +40,8 @@ scsSwitches cpu ports =
       joystick = 0;
     }
 
--- "what a 48K machine does not carry reads as 0"
-abbrev pub scsSound : Model → List ℕ → List ℕ
-scsSound K48 ports = replicate 16 0
-scsSound K128 ports = take 16 (drop 3 ports)
-
--- of the last OUT to FFFD the low four bits count. "Everything else reads as from v1": from the attachment on
+-- "what a 48K machine does not carry reads as 0": the last OUT to 7FFD. "A 48K machine from SCS always has the chip"; of the last OUT to
+-- FFFD the low four bits count. "Everything else reads as from v1": from the attachment on
 unfoldable pub scsMachine : Model → List ℕ → List ℕ → Machine
 scsMachine model cpu ports =
     record {
@@ -56,8 +51,9 @@ scsMachine model cpu ports =
       switches = scsSwitches cpu ports;
       model = model;
       out7ffd = carried model (at ports 1);
-      outfffd = carried model (at ports 2 % 16);
-      sound = scsSound model ports;
+      chip = true;
+      outfffd = at ports 2 % 16;
+      sound = take 16 (drop 3 ports);
       attachment = Nothing;
       byte36 = 0;
       remulation = false;

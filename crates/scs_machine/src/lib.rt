@@ -6,7 +6,7 @@ use spectrum::Switches;
 use spectrum::Video;
 ghost use mathlib.Core.Path.{_≡_};
 ghost use Rattle.header_read.specs.Reading.{carried};
-ghost use Rattle.scs_machine.specs.ScsMachine.{scsPairs, scsSwitches, scsSound, scsMachine};
+ghost use Rattle.scs_machine.specs.ScsMachine.{scsPairs, scsSwitches, scsMachine};
 
 // The machine that both blocks give.
 pub fn machine_from(model: Model, cpu: [u8; 34], ports: [u8; 19]) -> Machine
@@ -15,8 +15,7 @@ pub fn machine_from(model: Model, cpu: [u8; 34], ports: [u8; 19]) -> Machine
     let pairs = pairs_from(cpu);
     let switches = switches_from(cpu, ports);
     let out7ffd = carry_byte(model, ports[1]);
-    let outfffd = carry_byte(model, ports[2] % 16);
-    let sound = sound_from(model, ports);
+    let sound = slices::part16(&ports, 3);
     let side = header_read::no_side();
     Machine {
         pairs: pairs,
@@ -25,7 +24,8 @@ pub fn machine_from(model: Model, cpu: [u8; 34], ports: [u8; 19]) -> Machine
         switches: switches,
         model: model,
         out7ffd: out7ffd,
-        outfffd: outfffd,
+        chip: true,
+        outfffd: ports[2] % 16,
         sound: sound,
         attachment: Attachment::Nothing,
         byte36: 0,
@@ -79,14 +79,5 @@ fn carry_byte(model: Model, b: u8) -> u8
     match model {
         Model::K48 => 0,
         Model::K128 => b,
-    }
-}
-
-fn sound_from(model: Model, ports: [u8; 19]) -> [u8; 16]
-    ensures { λ r. ⌜ r ≡ scsSound model ports ⌝ }
-{
-    match model {
-        Model::K48 => [0u8; 16],
-        Model::K128 => slices::part16(&ports, 3),
     }
 }

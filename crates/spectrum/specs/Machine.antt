@@ -8,7 +8,7 @@ use Rattle.pages.specs.declared.Model.the-variants.{K48}
 use Rattle.spectrum.specs.declared.Attachment.the-variants.{Nothing}
 use Rattle.spectrum.specs.declared.Video.the-variants.{Normal}
 
--- "The blank machine is 48K, no attachment, every number 0, every switch off, video normal."
+-- "The blank machine is 48K, no attachment, every number 0, every switch off, video normal."; it has no sound chip
 unfoldable pub blankMachine : Machine
 blankMachine =
     record {
@@ -23,6 +23,7 @@ blankMachine =
       remulation = false;
       ldiremulation = false;
       outfffd = 0;
+      chip = false;
       sound = replicate 16 0;
       position = 0;
       side59 = 0;
@@ -44,6 +45,7 @@ changed m pairs out =
       remulation = m .remulation;
       ldiremulation = m .ldiremulation;
       outfffd = m .outfffd;
+      chip = m .chip;
       sound = m .sound;
       position = m .position;
       side59 = m .side59;

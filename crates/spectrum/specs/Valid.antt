@@ -1,8 +1,8 @@
--- "A machine is valid if its interrupt mode is 0-2, border 0-7, joystick 0-3, frame position below 4q, and, in 48K mode,
--- last OUTs and sound registers are 0."
+-- "A machine is valid if its interrupt mode is 0-2, border 0-7, joystick 0-3, frame position below 4q, and, in 48K mode", the last OUT to
+-- 7FFD is 0. Without the sound chip the last OUT to FFFD and the sound registers are 0; "a 128K machine always has the chip".
 use Prim.Native.Nat.{ℕ, _<_}
 use mathlib.Core.Path.{_≡_}
-use mathlib.Core.Bool.{Bool, true}
+use mathlib.Core.Bool.{Bool, true, false}
 use mathlib.Core.List.{List, [], _∷_}
 use lib.ListN.{length, getD, replicate}
 use lib.Dec.{ltb, eqb}
@@ -17,10 +17,15 @@ abbrev pub zeros : List ℕ → Bool
 zeros [] = true
 zeros (x ∷ xs) = both (eqb x 0) (zeros xs)
 
--- in 48K mode last OUTs and sound registers are 0
+-- whether a last OUT to FFFD and sound registers are those of a machine with the chip, or without it
+abbrev pub soundFits : Bool → ℕ → List ℕ → Bool
+soundFits true outfffd sound = true
+soundFits false outfffd sound = both (eqb outfffd 0) (zeros sound)
+
+-- a 48K machine has no last OUT to 7FFD, and sound only with the chip; a 128K machine has the chip
 abbrev pub quietOf : Model → Machine → Bool
-quietOf K48 m = both (eqb (m .out7ffd) 0) (both (eqb (m .outfffd) 0) (zeros (m .sound)))
-quietOf K128 m = true
+quietOf K48 m = both (eqb (m .out7ffd) 0) (soundFits (m .chip) (m .outfffd) (m .sound))
+quietOf K128 m = m .chip
 
 unfoldable pub validOf : Machine → Bool
 validOf m =
@@ -36,8 +41,9 @@ pub record Valid (m : Machine) : Type 0 where
   pub joystick : m .switches .joystick < 4
   pub position : m .position < clockEnd (m .model)
   pub out7ffd : m .model ≡ K48 → m .out7ffd ≡ 0
-  pub outfffd : m .model ≡ K48 → m .outfffd ≡ 0
-  pub silent : m .model ≡ K48 → m .sound ≡ replicate 16 0
+  pub chip : m .model ≡ K128 → m .chip ≡ true
+  pub outfffd : m .chip ≡ false → m .outfffd ≡ 0
+  pub silent : m .chip ≡ false → m .sound ≡ replicate 16 0
 
 -- what the types of a machine's fields say of every machine that code holds
 pub record Typed (m : Machine) : Type 0 where

@@ -5,7 +5,7 @@ ghost use mathlib.Core.Path.{_≡_};
 ghost use lib.ListN.{getD};
 ghost use lib.Dec.{ltb};
 ghost use Rattle.spectrum.specs.Machine.{withPair, withOut, blankMachine};
-ghost use Rattle.spectrum.specs.Valid.{Typed, zeros, quietOf, validOf};
+ghost use Rattle.spectrum.specs.Valid.{Typed, zeros, soundFits, quietOf, validOf};
 ghost use Rattle.pages.specs.Pages.{placeOf};
 
 pub enum Attachment {
@@ -40,6 +40,8 @@ pub struct Machine {
     // the last OUT to 7FFD, and to FFFD
     pub out7ffd: u8,
     pub outfffd: u8,
+    // whether it has the sound chip; a 128K machine always has
+    pub chip: bool,
     // the frame position
     pub position: u32,
     pub sound: [u8; 16],
@@ -86,6 +88,7 @@ impl Machine {
             remulation: false,
             ldiremulation: false,
             outfffd: 0,
+            chip: false,
             sound: sound,
             position: 0,
             side59: 0,
@@ -134,7 +137,8 @@ impl Machine {
         )
     }
 
-    // Whether what a 48K machine does not carry is 0.
+    // Whether a 48K machine has no last OUT to 7FFD and, without the sound chip, none to FFFD and no sound; whether a 128K machine has
+    // the chip.
     fn quiet(self) -> bool
         ensures { λ r. ⌜ r ≡ quietOf (self .model) self ⌝ }
     {
@@ -143,9 +147,9 @@ impl Machine {
         match model {
             Model::K48 => slices::and(
                 self.out7ffd == 0,
-                slices::and(self.outfffd == 0, silent16(&sound)),
+                sound_fits(self.chip, self.outfffd, &sound),
             ),
-            Model::K128 => true,
+            Model::K128 => self.chip,
         }
     }
 
@@ -169,10 +173,14 @@ fn below(a: u32, b: u32) -> bool
     a < b
 }
 
-fn silent16(sound: &[u8; 16]) -> bool
-    ensures { λ r. ⌜ r ≡ zeros (now (sound .entry)) ⌝ }
+// With the chip any sound, without it none.
+fn sound_fits(chip: bool, outfffd: u8, sound: &[u8; 16]) -> bool
+    ensures { λ r. ⌜ r ≡ soundFits chip outfffd (now (sound .entry)) ⌝ }
 {
-    silent(sound)
+    if chip {
+        return true;
+    }
+    slices::and(outfffd == 0, silent(sound))
 }
 
 // Looks at every byte, so that the compiler can look at many at once.

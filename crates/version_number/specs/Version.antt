@@ -1,5 +1,5 @@
--- The library's version, 0.5.0: "10000 * major + 100 * minor + patch".
+-- The library's version, 0.6.0: "10000 * major + 100 * minor + patch".
 use Prim.Native.Nat.{ℕ, _+_, _*_}
 
 abbrev pub libraryVersion : ℕ
-libraryVersion = 10000 * 0 + 100 * 5 + 0
+libraryVersion = 10000 * 0 + 100 * 6 + 0

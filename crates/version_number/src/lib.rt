@@ -6,5 +6,5 @@ ghost use Rattle.version_number.specs.Version.{libraryVersion};
 pub fn current() -> u32
     ensures { λ r. ⌜ r ≡ libraryVersion ⌝ }
 {
-    500
+    600
 }

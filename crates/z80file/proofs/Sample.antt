@@ -23,6 +23,7 @@ sample =
       byte36 = 0;
       remulation = false;
       ldiremulation = false;
+      chip = true;
       outfffd = 0;
       sound = replicate 16 0;
       position = 0;

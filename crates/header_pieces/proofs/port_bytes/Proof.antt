@@ -1,5 +1,3 @@
-use Prim.Native.Nat.{_+_, _*_, _%_}
-use mathlib.Core.List.{[], _∷_}
 use borrow.Author.Needs.{needs}
 use Rattle.header_pieces.proofs.port_bytes.Statement.{statement}
 use Rattle.header_pieces.proofs.port_bytes.Tie as tie
@@ -19,11 +17,28 @@ mul-t9 c = search needs
 add-t10 : tie.Need-add-t10
 add-t10 c = search needs
 
+chip-bit-requires : tie.Need-chip-bit-requires
+chip-bit-requires c κs = search needs
+
+mul-t13 : tie.Need-mul-t13
+mul-t13 c = search needs
+
+add-t14 : tie.Need-add-t14
+add-t14 c = search needs
+
 returns : tie.Need-returns
-returns c =
-    let m = c .before .before .before .args .m in
-    λ k. c .before .before .mode-byte .ensures k ∷ m .out7ffd ∷ m .byte36 ∷ (c .before .bit .ensures k % 2 + 2 * (c .bit2 .ensures k % 2)) ∷ m .outfffd ∷ []
+returns c = cc
 
 pub port-bytes-spec : {M : Type 1} → statement M
 port-bytes-spec =
-    tie.close (tie.spec mode-byte-requires bit-requires bit-requires-2 mul-t9 add-t10 returns)
+    tie.close
+    (tie.spec
+    mode-byte-requires
+    bit-requires
+    bit-requires-2
+    mul-t9
+    add-t10
+    chip-bit-requires
+    mul-t13
+    add-t14
+    returns)
