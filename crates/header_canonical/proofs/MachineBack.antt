@@ -109,9 +109,22 @@ module _ (a b : Bool) (c n : ℕ) (e : n ≡ bitOf a % 2 + 2 * (bitOf b % 2) + 4
   pub second-bit : bitAt n 2 ≡ b
   second-bit = let q : n / 2 % 2 ≡ bitOf b % 2 = omega arith in ap (λ (x : ℕ). eqb x 1) q ∙ is-one b
 
-chip-back : (a b chip : Bool) (k : Model) → (k ≡ K128 → chip ≡ true) → chipOf k (byte37 a b (chipBit k chip)) ≡ chip
-chip-back a b chip K48 h = let q : byte37 a b (bitOf chip) / 4 % 2 ≡ bitOf chip % 2 = omega arith in ap (λ (n : ℕ). eqb n 1) q ∙ is-one chip
-chip-back a b chip K128 h = sym (h refl)
+-- bit 2 of byte 37
+module _ (a b chip : Bool) where
+  third-bit : (n : ℕ) → byte37 a b n / 4 % 2 ≡ n % 2
+  third-bit n = omega arith
+
+  chip-back : (k : Model) → (k ≡ K128 → chip ≡ true) → chipOf k (byte37 a b (chipBit k chip)) ≡ chip
+  chip-back K48 h = ap (λ (x : ℕ). eqb x 1) (third-bit (bitOf chip)) ∙ is-one chip
+  chip-back K128 h = sym (h refl)
+
+  mark-back : (k : Model) → bitOf (bitAt (byte37 a b (chipBit k chip)) 4) ≡ chipBit k chip
+  mark-back K48 = ap bitOf (ap (λ (x : ℕ). eqb x 1) (third-bit (bitOf chip)) ∙ is-one chip)
+  mark-back K128 = ap (λ (x : ℕ). bitOf (eqb x 1)) (third-bit 0)
+
+pub header-mark : (m : Machine) → bitOf (bitAt (at (headerOf m) 37) 4) ≡ chipBit (m .model) (m .chip)
+unfolding headerOf
+header-mark m = mark-back (m .remulation) (m .ldiremulation) (m .chip) (m .model)
 
 high-small : (k : Model) (p : ℕ) → highOf k p % 256 ≡ highOf k p
 high-small K48 p = omega arith

@@ -3,13 +3,15 @@ use Prim.Native.Nat.{ℕ}
 use mathlib.Core.Path.{ap, _∙_}
 use mathlib.Core.List.{List, _++_}
 use lib.ListN.{length}
+use Rattle.slices.specs.Bytes.{at, bitAt, bitOf}
 use Rattle.spectrum.proofs.Validity.{valid-says}
 use Rattle.header.specs.declared.Version.the-variants.{V3}
 use Rattle.header.specs.Heads.{headOf}
 use Rattle.header_read.specs.Reading.{machineOf}
 use Rattle.header_write.proofs.WriteSteps.{header-86}
 use Rattle.header_canonical.specs.Theorems.{Theorems}
-use Rattle.header_canonical.proofs.MachineBack.{machine-back}
+use Rattle.header_canonical.specs.Canonical.{decodedOf}
+use Rattle.header_canonical.proofs.MachineBack.{machine-back, header-mark}
 use Rattle.header_canonical.proofs.HeadBack.{head-back}
 use Rattle.header_canonical.proofs.Canonical.{decoded-back, decoded-same, decoded-is, one-machine}
 
@@ -23,5 +25,6 @@ theorems =
       decoded-back = decoded-back;
       decoded-same = decoded-same;
       decoded-is = decoded-is;
+      chip-mark = λ s c. ap (λ (h : List ℕ). bitOf (bitAt (at h 37) 4)) (decoded-same s c) ∙ header-mark (decodedOf s .machine);
       one-machine = one-machine;
     }
