@@ -28,8 +28,8 @@ extern "C" {
 #endif
 
 /* The version of this header, 10000 * major + 100 * minor + patch; snap_version answers the linked library's. */
-#define SNAP_VERSION 500u
-#define SNAP_VERSION_TEXT "0.5.0"
+#define SNAP_VERSION 600u
+#define SNAP_VERSION_TEXT "0.6.0"
 
 /* Sizes in bytes. RAM pages 0 to 7 lie in the area in that order. */
 #define SNAP_PAGE_SIZE 16384u
@@ -85,11 +85,13 @@ enum snap_at {
     SNAP_AT_LENGTH = 30, /* word, always 54: the header's bytes from 32 on */
     SNAP_AT_PC = 32, /* word */
     SNAP_AT_MODE = 34, /* a number of `enum snap_mode` */
-    SNAP_AT_OUT_7FFD = 35, /* last OUT to 7FFD; this and the bytes 38 to 54 are 0 on a 48K machine */
+    SNAP_AT_OUT_7FFD = 35, /* last OUT to 7FFD; 0 on a 48K machine */
     SNAP_AT_INTERFACE_1_ROM = 36, /* kept as it is; FF where the ROM of Interface I is paged in */
-    SNAP_AT_EMULATION = 37, /* bit 0: R emulation; bit 1: LDIR emulation; the rest 0 */
-    SNAP_AT_OUT_FFFD = 38, /* last OUT to FFFD, the number of a sound register */
-    SNAP_AT_SOUND = 39, /* 16 sound registers */
+    /* bit 0: R emulation; bit 1: LDIR emulation; bit 2: a 48K machine with the sound chip, 0 on a 128K, which always has it;
+       the rest 0 */
+    SNAP_AT_EMULATION = 37,
+    SNAP_AT_OUT_FFFD = 38, /* last OUT to FFFD, the number of a sound register; 0 without the sound chip */
+    SNAP_AT_SOUND = 39, /* 16 sound registers; 0 without the sound chip */
     /* With q a quarter of this machine's frame, low below q and high at most 3, the place of the clock in its frame is
        (high + 1) % 4 * q + (q - 1 - low). */
     SNAP_AT_LOW_COUNTER = 55, /* word */
@@ -112,7 +114,7 @@ enum snap_bits {
     SNAP_FLAGS_R7 = 0x01, SNAP_FLAGS_BORDER = 0x0E,
     SNAP_SETTINGS_INTERRUPT_MODE = 0x03, SNAP_SETTINGS_ISSUE_2 = 0x04, SNAP_SETTINGS_DOUBLE_INTERRUPTS = 0x08,
     SNAP_SETTINGS_VIDEO = 0x30, SNAP_SETTINGS_JOYSTICK = 0xC0,
-    SNAP_EMULATION_R = 0x01, SNAP_EMULATION_LDIR = 0x02,
+    SNAP_EMULATION_R = 0x01, SNAP_EMULATION_LDIR = 0x02, SNAP_EMULATION_SOUND = 0x04,
     /* the page at C000; the screen in page 7 and not 5; the second 16K of ROM and not the first; paging locked */
     SNAP_7FFD_PAGE = 0x07, SNAP_7FFD_SCREEN = 0x08, SNAP_7FFD_ROM = 0x10, SNAP_7FFD_LOCK = 0x20
 };
@@ -228,6 +230,7 @@ uint32_t snap_version(void);
 
 /*
  * Reads a .Z80 file, v1, v2 or v3: header becomes the machine's, area its memory, pages that it does not own zero.
+ * A 48K has the sound chip where bit 2 of the byte 37 of a v2 or v3 file says so, and only then keeps the bytes 38 to 54.
  * Refused (1 to 14; 20 for a header buffer of another length): area all zero, header the blank machine's, or zeros at
  * another length. *offset is as in the table above. Nothing depends on what stood in area, header or *offset before.
  */
@@ -269,8 +272,9 @@ uint32_t snap_z80_write(const uint8_t *header, size_t header_len,
 
 /*
  * Reads an SCS file with a 48K or 128K Spectrum inside, already unwrapped (one that is still gzip is 40, or 2), into the
- * machine's header and area as snap_z80_read does. What SCS does not hold is as from a v1 file: no attachment, position 0.
- * Not kept: clock numbers, other blocks, bits that do not count, a 48K's OUTs and sound, bytes past a block's due length.
+ * machine's header and area as snap_z80_read does. What SCS does not hold is as from a v1 file: no attachment, position 0;
+ * but a 48K always has the sound chip, also where its registers are 0. Not kept: clock numbers, other blocks, bits that do
+ * not count, a 48K's last OUT to 7FFD, bytes past a block's due length.
  * Refused, in this order: 20 for a header buffer of another length, 1 area, 2 under 15 bytes, 40, 43, block by block 8 then
  * 42, then 41, last 5; then area and header are as after a refused snap_z80_read. *offset is as in the table above.
  */
@@ -281,8 +285,9 @@ uint32_t snap_scs_read(const uint8_t *file, size_t file_len,
 
 /*
  * Writes the one SCS file of a machine and its memory, SNAP_SCS_FILE_48K or SNAP_SCS_FILE_128K bytes; all else as in
- * snap_z80_write. SCS holds less than a machine is: read back, the attachment, the bytes 36 and 37, the clock's place, the
- * side bytes, bits 2 to 7 of byte 29 and the upper four bits of the last OUT to FFFD are as from a v1 file.
+ * snap_z80_write. SCS holds less than a machine is: read back, the attachment, byte 36, bits 0 and 1 of byte 37, the clock's
+ * place, the side bytes, bits 2 to 7 of byte 29 and the upper four bits of the last OUT to FFFD are as from a v1 file; and a
+ * 48K without the sound chip has gained it.
  */
 uint32_t snap_scs_write(const uint8_t *header, size_t header_len,
                         const uint8_t *area, size_t area_len,
