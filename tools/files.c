@@ -89,6 +89,6 @@ enum status open_to_save(const char *path, enum file_kind kind, bool format_aske
     if (opened->kind == SCS_FILE && !format_asked)
         warn(input_name(path), "is an SCS file; it is saved as a .Z80 file, and '--format scs' keeps it one");
     kept_in(kind, opened, &kept);
-    tell_lost(input_name(path), opened, &kept);
+    tell_changes(input_name(path), opened, &kept);
     return ACCEPTED;
 }

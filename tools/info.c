@@ -28,16 +28,22 @@ static void print_registers(FILE *to, const struct machine *m)
             m->iff1, m->iff2);
 }
 
-static void print_ports(FILE *to, const struct machine *m)
+static void print_paging(FILE *to, const struct machine *m)
 {
-    fprintf(to, "Border     %u, %s\n", m->border, colour_names[m->border]);
-    if (!m->is_128k)
-        return;
     uint8_t out = m->out_7ffd;
     fprintf(to, "Paging     last OUT to 7FFD %02X, %s\n", out, out & SNAP_7FFD_LOCK ? "locked" : "not locked");
     fprintf(to, "           page %u at C000, screen in page %d, ROM %d\n", out & SNAP_7FFD_PAGE,
             out & SNAP_7FFD_SCREEN ? 7 : 5, out & SNAP_7FFD_ROM ? 1 : 0);
-    fprintf(to, "Sound      last OUT to FFFD %02X\n           registers", m->out_fffd);
+}
+
+static void print_ports(FILE *to, const struct machine *m)
+{
+    fprintf(to, "Border     %u, %s\n", m->border, colour_names[m->border]);
+    if (m->is_128k)
+        print_paging(to, m);
+    if (!m->has_sound_chip)
+        return;
+    fprintf(to, "Sound      AY chip, last OUT to FFFD %02X\n           registers", m->out_fffd);
     print_hex(to, m->sound, sizeof m->sound);
 }
 

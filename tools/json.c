@@ -45,13 +45,17 @@ static void print_numbers(FILE *to, const uint8_t *bytes, unsigned count)
 static void print_json_ports(FILE *to, const struct machine *m)
 {
     fprintf(to, "  \"border\": %u,\n  \"ports\": ", m->border);
-    if (m->is_128k) {
-        fprintf(to, "{\"7FFD\": %u, \"FFFD\": %u, \"sound\": ", m->out_7ffd, m->out_fffd);
-        print_numbers(to, m->sound, sizeof m->sound);
-        fputs("},\n", to);
-    } else {
+    if (!m->has_sound_chip) {
         fputs("null,\n", to);
+        return;
     }
+    if (m->is_128k)
+        fprintf(to, "{\"7FFD\": %u, ", m->out_7ffd);
+    else
+        fputs("{\"7FFD\": null, ", to);
+    fprintf(to, "\"FFFD\": %u, \"sound\": ", m->out_fffd);
+    print_numbers(to, m->sound, sizeof m->sound);
+    fputs("},\n", to);
 }
 
 static void print_json_settings(FILE *to, const struct machine *m)

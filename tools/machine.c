@@ -75,6 +75,7 @@ struct machine machine_of(const uint8_t header[SNAP_HEADER_SIZE])
     m.out_7ffd = header[SNAP_AT_OUT_7FFD];
     m.byte_36 = header[SNAP_AT_INTERFACE_1_ROM];
     m.byte_37 = header[SNAP_AT_EMULATION];
+    m.has_sound_chip = m.is_128k || (m.byte_37 & SNAP_EMULATION_SOUND) != 0;
     m.out_fffd = header[SNAP_AT_OUT_FFFD];
     memcpy(m.sound, header + SNAP_AT_SOUND, sizeof m.sound);
     take_side_bytes(&m, header);

@@ -66,8 +66,8 @@ bool is_accepted(const struct taking *taken);
 /* Without a snapshot to open, NULL, a file is only looked through. */
 struct taking take_snapshot(const uint8_t *file, size_t length, struct snapshot *opened);
 
-/* kept.c: what of a machine comes back from a file of a kind; what does not is told. */
+/* kept.c: what of a machine comes back from a file of a kind; what is lost or gained so is told. */
 void kept_in(enum file_kind kind, const struct snapshot *opened, struct snapshot *kept);
-void tell_lost(const char *file, const struct snapshot *opened, const struct snapshot *kept);
+void tell_changes(const char *file, const struct snapshot *opened, const struct snapshot *kept);
 
 #endif

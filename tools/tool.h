@@ -109,7 +109,7 @@ enum status output_snapshot(const char *path, const struct snapshot *opened, enu
 
 /* machine.c: what the 86 header bytes say. */
 struct machine {
-    bool is_128k;
+    bool is_128k, has_sound_chip;
     const char *attachment;
     uint16_t pairs[SNAP_PAIRS];
     /* the pages seen in the four quarters of memory, as paging is now: 8 or 9 at 0000, then RAM */
