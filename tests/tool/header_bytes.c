@@ -43,12 +43,28 @@ static int is_mode(unsigned value)
         || value == SNAP_MODE_128K || value == SNAP_MODE_128K_INTERFACE_1 || value == SNAP_MODE_128K_MGT;
 }
 
-/* Whether a byte may have this value, where the others are 0 as far as they can be. */
-static int allowed(unsigned place, unsigned value, int is_128k)
+static int is_128_header(const uint8_t *header)
 {
-    unsigned quarter = is_128k ? SNAP_QUARTER_128K : SNAP_QUARTER_48K;
-    if (!is_128k && (place == SNAP_AT_OUT_7FFD || (place >= SNAP_AT_OUT_FFFD && place < SNAP_AT_LOW_COUNTER)))
-        return value == 0;
+    return header[SNAP_AT_MODE] >= SNAP_MODE_128K;
+}
+
+/* Whether the last OUTs, the sound registers and the mark of the sound chip go with the model. */
+static int ports_fit(const uint8_t *header)
+{
+    int is_marked = (header[SNAP_AT_EMULATION] & SNAP_EMULATION_SOUND) != 0, is_silent = 1;
+    for (unsigned at = SNAP_AT_OUT_FFFD; at < SNAP_AT_LOW_COUNTER; at++)
+        is_silent = is_silent && header[at] == 0;
+    if (is_128_header(header))
+        return !is_marked;
+    return header[SNAP_AT_OUT_7FFD] == 0 && (is_marked || is_silent);
+}
+
+/* Whether a byte may have the value that it has; the others are a machine's. */
+static int allowed(const uint8_t *header, unsigned place)
+{
+    unsigned value = header[place], quarter = is_128_header(header) ? SNAP_QUARTER_128K : SNAP_QUARTER_48K;
+    if (!ports_fit(header))
+        return 0;
     switch (place) {
     case SNAP_AT_PC_V1:
     case SNAP_AT_PC_V1 + 1:
@@ -62,7 +78,7 @@ static int allowed(unsigned place, unsigned value, int is_128k)
     case SNAP_AT_IFF2: return value < 2;
     case SNAP_AT_SETTINGS: return (value & SNAP_SETTINGS_INTERRUPT_MODE) != 3 && (value & SNAP_SETTINGS_VIDEO) != 0x20;
     case SNAP_AT_MODE: return is_mode(value);
-    case SNAP_AT_EMULATION: return (value & ~(SNAP_EMULATION_R | SNAP_EMULATION_LDIR)) == 0;
+    case SNAP_AT_EMULATION: return (value & ~(SNAP_EMULATION_R | SNAP_EMULATION_LDIR | SNAP_EMULATION_SOUND)) == 0;
     case SNAP_AT_LOW_COUNTER: return value < quarter;
     case SNAP_AT_LOW_COUNTER + 1: return 256 * value < quarter;
     case SNAP_AT_HIGH_COUNTER: return value < 4;
@@ -70,19 +86,22 @@ static int allowed(unsigned place, unsigned value, int is_128k)
     }
 }
 
-/* A machine that is not valid is refused before the missing area is. */
-static void every_value(uint8_t mode, int is_128k)
+/* Each byte with every value, in a machine that is 0 but for its mode, its byte 37 and its last sound register. One that is not
+   valid is refused before the missing area is. */
+static void every_value(uint8_t mode, uint8_t emulation, uint8_t sound)
 {
     uint8_t header[SNAP_HEADER_SIZE] = {0}, in_rom;
     uint64_t start, length;
     header[SNAP_AT_LENGTH] = 54;
     header[SNAP_AT_MODE] = mode;
+    header[SNAP_AT_EMULATION] = emulation;
+    header[SNAP_AT_LOW_COUNTER - 1] = sound;
     for (unsigned place = 0; place < SNAP_HEADER_SIZE; place++) {
         uint8_t kept = header[place];
         for (unsigned value = 0; value < 256; value++) {
             header[place] = (uint8_t)value;
             uint32_t number = snap_view(header, sizeof header, NULL, 0, NULL, 0, 0, &in_rom, &start, &length);
-            assert(number == (allowed(place, value, is_128k) ? SNAP_MEMORY_LENGTH : SNAP_INVALID_MACHINE));
+            assert(number == (allowed(header, place) ? SNAP_MEMORY_LENGTH : SNAP_INVALID_MACHINE));
         }
         header[place] = kept;
     }
@@ -112,7 +131,10 @@ int main(void)
 {
     every_byte_once();
     every_pair();
-    every_value(SNAP_MODE_48K, 0);
-    every_value(SNAP_MODE_128K, 1);
+    every_value(SNAP_MODE_48K, 0, 0);
+    every_value(SNAP_MODE_48K, SNAP_EMULATION_SOUND, 0);
+    every_value(SNAP_MODE_48K, SNAP_EMULATION_SOUND, 1);
+    every_value(SNAP_MODE_128K, 0, 0);
+    every_value(SNAP_MODE_128K, 0, 1);
     return 0;
 }
