@@ -31,6 +31,8 @@ info_agrees() {
 }
 check "registers, interrupts and border as libspectrum says, in every stored file" info_agrees
 
+# dumped_registers: the sound registers in $work/dump, as JSON.
+dumped_registers() { echo "[$(printf '%d,' $(sed -n 's/^AY registers: //p' "$work/dump" | sed -E 's/[^ ]+/0x&/g') | sed 's/,$//')]"; }
 ports_agree() {
     local file count=0
     for file in $(accepted_files | grep /128k-) samples/museum-128k.z80; do
@@ -38,6 +40,7 @@ ports_agree() {
         snapdump "$file" >"$work/dump"
         [ "$(jq '.ports."7FFD"' "$work/json")" -eq "$(($(sed -nE 's/^128 mem: //p' "$work/dump")))" ]
         [ "$(jq '.ports.FFFD' "$work/json")" -eq "$(($(sed -nE 's/^AY: //p' "$work/dump")))" ]
+        [ "$(jq -c '.ports.sound' "$work/json")" = "$(dumped_registers)" ]
         [ "$(jq '.clock.position' "$work/json")" -eq "$(sed -nE 's/^tstates: //p' "$work/dump")" ]
         count=$((count + 1))
     done
@@ -141,6 +144,9 @@ versions() {
     [ "$(stat -c %s "$work/version1.z80")" -eq 49182 ]
 }
 check "the version and length of the file, in info and not in an edited machine" versions
+
+# with_sound OUT FILE BYTE_37: a file with sound registers, a last OUT to 7FFD and this byte 37.
+with_sound() { patched "$1" "$2" 35 13 37 "$3" 38 F7 39 0102030405060708090A0B0C0D0E0F10; }
 
 two_places() {
     patched "$work/five.z80" samples/museum-128k.z80 35 05

@@ -35,7 +35,7 @@ make_scs_files() {
 check "SCS files of a 48K and a 128K, and the .Z80 files that are written of them" make_scs_files
 
 scs_machine() {
-    local model ending registers ports='null'
+    local model ending registers out=null
     registers='[258,772,1286,1800,4370,4884,5398,5912,8480,8994,37158,33060,63,197]'
     for model in 48 128; do
         for ending in scs scs.gz; do
@@ -43,10 +43,10 @@ scs_machine() {
             [ ! -s "$work/err" ]
             [ "$(jq -c '[.machine, .hardware, .attachment, .registers[]]' "$work/out")" = "[\"${model}K\",\"${model}K\",\"none\",${registers#[}" ]
             [ "$(jq -c '[.interrupts[], .border]' "$work/out")" = '[2,false,true,5]' ]
-            [ "$(jq -c .ports "$work/out")" = "$ports" ]
+            [ "$(jq -c .ports "$work/out")" = '{"7FFD":'$out',"FFFD":7,"sound":[48,49,50,51,52,53,54,55,56,57,58,59,60,61,62,63]}' ]
             [ "$(jq -c '[.clock.position, .emulation.bytes_59_61_85]' "$work/out")" = '[0,[0,255,255,0,0,0,0,0,0,0,0,0,0,0,0,0,0,0,0,0,0,0,0,0,0,0]]' ]
         done
-        ports='{"7FFD":19,"FFFD":7,"sound":[48,49,50,51,52,53,54,55,56,57,58,59,60,61,62,63]}'
+        out=19
     done
 }
 check "the machine of an SCS file, each register and port by the description" scs_machine

@@ -1,12 +1,13 @@
 # SCS files that are written and edited: what they hold, what is lost, what they replace.
 
-# everything that SCS does not hold: settings, attachment, bytes 36 and 37, the OUT to FFFD, the clock, bytes 59 and 61 to 85
-rich() { patched "$1" "$2" 29 "$3" 34 "$4" 36 FF 37 03 "${@:5}" 55 0100 59 FF 61 0011 73 41 85 22; }
+# rich OUT FILE BYTE_29 MODE BYTE_37: everything that SCS does not hold, settings, attachment, bytes 36 and 37, the OUT to FFFD, the
+# clock, bytes 59 and 61 to 85; and sound registers, which it holds
+rich() { with_sound "$1" "$2" "$5"; patched "$work/rich" "$1" 29 "$3" 34 "$4" 36 FF 55 0100 59 FF 61 0011 73 41 85 22; mv "$work/rich" "$1"; }
 
 written_scs() {
-    local model size
-    rich "$work/rich48.z80" tests/files/48k-text.z80 FE 03
-    rich "$work/rich128.z80" tests/files/128k-text.z80 6D 05 35 13 38 F5 39 0102030405060708090A0B0C0D0E0F10
+    local model size out=00
+    rich "$work/rich48.z80" tests/files/48k-text.z80 FE 03 07
+    rich "$work/rich128.z80" tests/files/128k-text.z80 6D 05 03
     for model in 48 128; do
         size=$((model * 1024 + 88))
         run_tool 0 write "$work/rich$model.z80" -o "$work/rich$model.scs" --format scs
@@ -16,6 +17,9 @@ written_scs() {
         # the blocks' heads, and the CPU block's clock numbers
         [ "$(tail -c 68 "$work/rich$model.scs" | head -c 5 | xxd -p)" = 0122000000 ]
         [ "$(tail -c 35 "$work/rich$model.scs" | head -c 11 | xxd -p)" = 0000000000000213000000 ]
+        # the OUTs and the sound registers
+        [ "$(tail -c 23 "$work/rich$model.scs" | head -c 18 | xxd -p)" = "${out}070102030405060708090a0b0c0d0e0f10" ]
+        out=13
         # what is read back loses nothing more
         run_tool 0 write "$work/rich$model.scs" -o "$work/twice.scs" --format scs
         [ ! -s "$work/err" ]
@@ -32,47 +36,67 @@ what_stays() {
         | if .ports then .ports.FFFD %= 16 else . end' "$work/out"
 }
 kept_and_lost() {
-    local model page
+    local model page emulation=4 out=null
     for model in 48 128; do
         what_stays "$work/rich$model.z80" >"$work/before"
         what_stays "$work/rich$model.scs" | diff "$work/before" -
         [ "$(jq '.registers | length' "$work/before")" -eq 14 ]
         run_tool 0 info --json "$work/rich$model.scs"
         [ "$(jq -c '[.attachment, .clock.position, .settings[]]' "$work/out")" = '["none",0,false,false,"normal","Cursor"]' ]
-        [ "$(jq -c '[.emulation.byte_36, .emulation.byte_37, (.emulation.bytes_59_61_85 | add, .[1], .[2])]' "$work/out")" = '[0,0,510,255,255]' ]
+        [ "$(jq -c '[.emulation.byte_36, .emulation.byte_37, (.emulation.bytes_59_61_85 | add, .[1], .[2])]' "$work/out")" = "[0,$emulation,510,255,255]" ]
+        [ "$(jq -c '.ports | [."7FFD", .FFFD, .sound[15]]' "$work/out")" = "[$out,7,16]" ]
+        emulation=0 out=19
     done
-    [ "$(jq -c '.ports | [."7FFD", .FFFD, .sound[15]]' "$work/out")" = '[19,5,16]' ]
     run_tool 0 info --json "$work/rich128.z80"
-    [ "$(jq -c '[.ports.FFFD, .attachment, .settings.joystick]' "$work/out")" = '[245,"Interface I","Kempston"]' ]
+    [ "$(jq -c '[.ports.FFFD, .attachment, .settings.joystick]' "$work/out")" = '[247,"Interface I","Kempston"]' ]
     for page in {0..7}; do
         "$tool" view "$work/rich128.z80" "$page" --raw | cmp - <("$tool" view "$work/rich128.scs" "$page" --raw)
     done
 }
 check "registers, ports and memory come back from an SCS file, and the rest is as in the manual" kept_and_lost
 
-# loses NAMES FILE: the one line that is said when it is written as SCS, also where it is edited; none otherwise.
-loses() {
-    local line="snapshot: $2: an SCS file does not hold all of it; lost: $1"
-    run_tool 0 write "$2" -o - --format scs
-    [ "$(cat "$work/err")" = "${1:+$line}" ]
+# tells FILE LINE..: what is said when it is written as SCS, also where it is edited; nothing is said otherwise.
+tells() {
+    local line
+    : >"$work/told"
+    for line in "${@:2}"; do echo "snapshot: $1: $line" >>"$work/told"; done
+    run_tool 0 write "$1" -o - --format scs
+    diff "$work/told" "$work/err"
     lines 'list'
-    run_tool 0 edit "$2" -o "$work/never.scs" --format scs --script "$work/script"
-    [ "$(cat "$work/err")" = "${1:+$line}" ]
-    run_tool 0 write "$2" -o - --format z80
+    run_tool 0 edit "$1" -o "$work/never.scs" --format scs --script "$work/script"
+    diff "$work/told" "$work/err"
+    run_tool 0 write "$1" -o - --format z80
     [ ! -s "$work/err" ]
 }
-losses() {
-    local others='settings, byte 36, byte 37, byte 59, bytes 61 to 85'
-    loses "attachment, clock, $others" "$work/rich48.z80"
-    loses "attachment, clock, $others, upper four bits of the last OUT to FFFD" "$work/rich128.z80"
-    loses '' "$work/48.scs"
-    loses '' "$work/from128.z80"
-    # one by one, from a machine that loses nothing
+# loses NAMES FILE: the one line with these names, or none.
+loses() { tells "$2" ${1:+"an SCS file does not hold all of it; lost: $1"}; }
+# each_loses FILE: changes one by one, from a machine that loses nothing.
+each_loses() {
     local names change
     while IFS='|' read -r names change; do
-        patched "$work/changed.z80" "$work/from128.z80" $change
+        patched "$work/changed.z80" "$1" $change
         loses "$names" "$work/changed.z80"
-    done <<'CHANGES'
+    done
+}
+others='settings, byte 36, byte 37, byte 59, bytes 61 to 85'
+losses() {
+    local model
+    for model in 48 128; do
+        loses "attachment, clock, $others, upper four bits of the last OUT to FFFD" "$work/rich$model.z80"
+        loses '' "$work/$model.scs"
+        loses '' "$work/from$model.z80"
+    done
+    each_loses "$work/from48.z80" <<'CHANGES'
+attachment|34 03
+byte 37|37 05
+byte 37|37 06
+upper four bits of the last OUT to FFFD|38 17
+|35 01
+|37 44
+|38 08
+|39 77
+CHANGES
+    each_loses "$work/from128.z80" <<'CHANGES'
 attachment|34 06
 clock|57 02
 clock|55 00
@@ -84,6 +108,7 @@ byte 59|59 01
 bytes 61 to 85|61 FE
 bytes 61 to 85|85 01
 upper four bits of the last OUT to FFFD|38 17
+|37 04
 |38 08
 |35 01
 |39 77
@@ -96,9 +121,9 @@ check "what is lost is told in one line, each part by its name, and nothing else
 not_kept() {
     local cpu=$cpu ports=$ports format
     { memory_block 48 5 2 0; cpu_block; ports_block; } | scs 1 >"$work/less.scs"
-    # mode, IFFs and clock numbers; border, OUTs and sound of a 48K; each block longer than is due
+    # mode, IFFs and clock numbers; border, OUT to 7FFD of a 48K and upper bits of that to FFFD; each block longer than is due
     cpu=${cpu:0:52}020200000000000055
-    ports=05$(printf '%036d' 0)55
+    ports=050007${ports:6}55
     { cat "$work"/page48.{5,2,0} <(echo more) | block 3; : | block 4; cpu_block; ports_block; echo air | block 33; printf '\0\1\2'; } |
         scs 1 | sed '1s/TEST/ASCD/' >"$work/more.scs"
     for format in scs z80; do
