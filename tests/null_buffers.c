@@ -49,6 +49,20 @@ static void expect_scs(void)
     expect("the length of no SCS file", (uint32_t)length, 0);
 }
 
+/* The blank header with a sound register: it is looked at before the rest is. */
+static void expect_sound(void)
+{
+    uint64_t length = 7;
+    header[SNAP_AT_SOUND] = 1;
+    expect("write, a register without the chip, no area", snap_z80_write(header, sizeof header, NULL, 0, NULL, 0, &length), 20);
+    header[SNAP_AT_EMULATION] = SNAP_EMULATION_SOUND;
+    expect("write, a 48K with the chip, no area", snap_z80_write(header, sizeof header, NULL, 0, NULL, 0, &length), 21);
+    header[SNAP_AT_MODE] = SNAP_MODE_128K;
+    expect("write, a 128K with the mark, no area", snap_z80_write(header, sizeof header, NULL, 0, NULL, 0, &length), 20);
+    header[SNAP_AT_SOUND] = header[SNAP_AT_EMULATION] = 0;
+    header[SNAP_AT_MODE] = SNAP_MODE_48K;
+}
+
 int main(void)
 {
     uint64_t length = 7, start = 7, standing = 7, total = 7;
@@ -63,6 +77,7 @@ int main(void)
     expect("write, no area", snap_z80_write(header, sizeof header, NULL, 0, file, sizeof file, &length), 21);
     expect("write, no output", snap_z80_write(header, sizeof header, area, sizeof area, NULL, 0, &length), 22);
     expect_scs();
+    expect_sound();
     expect("view, no ROM", snap_view(header, sizeof header, NULL, 0, area, sizeof area, 5, &in_rom, &start, &length), 31);
     expect("view, no area", snap_view(header, sizeof header, NULL, 0, NULL, 0, 5, &in_rom, &start, &length), 21);
     expect("model, no header", snap_model(NULL, 0, &model, &attachment), 20);

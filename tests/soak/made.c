@@ -16,6 +16,11 @@ int is_128(const uint8_t *header)
     return header[34] >= 4;
 }
 
+static int has_sound_chip(const uint8_t *header)
+{
+    return is_128(header) || (header[37] & SNAP_EMULATION_SOUND) != 0;
+}
+
 static int owns(const uint8_t *header, unsigned page)
 {
     return is_128(header) || page == 0 || page == 2 || page == 5;
@@ -35,13 +40,13 @@ static void make_header(uint8_t *header, uint64_t *seed)
     header[29] = (uint8_t)((header[29] & 0xDC) | next(seed) % 3);
     header[30] = 54;
     header[34] = modes[next(seed) % 6];
-    header[37] &= 3;
+    header[37] &= is_128(header) ? 3 : 7;
     header[56] %= 0x44;
     header[57] &= 3;
-    if (!is_128(header)) {
+    if (!is_128(header))
         header[LAST_OUT] = 0;
+    if (!has_sound_chip(header))
         memset(header + 38, 0, 17);
-    }
 }
 
 /* Runs, from noise to long ones. */

@@ -59,6 +59,37 @@ static void short_write_request(struct server_slot *slot, uint64_t *seed)
     write_into(slot, made.length - 1 - next(seed) % 100);
 }
 
+/* A header that no machine has: a 128K with the mark of the sound chip; a 48K with a last OUT to 7FFD, or with a sound register and
+   without the chip. */
+static void spoil_header(uint8_t *header, uint64_t pick)
+{
+    if (is_128(header)) {
+        header[37] |= SNAP_EMULATION_SOUND;
+    } else if (pick % 4 == 0) {
+        header[LAST_OUT] = 1;
+    } else {
+        header[37] &= 3;
+        header[38 + pick / 4 % 17] |= 1;
+    }
+}
+
+/* The slot's machine is not valid: nothing is written, and nothing told of it. */
+static void not_valid_request(struct server_slot *slot, uint64_t *seed)
+{
+    uint8_t model = 7, attachment = 7;
+    read_request(slot, seed);
+    spoil_header(made.header, next(seed));
+    memcpy(slot->header, made.header, sizeof slot->header);
+    uint32_t number = snap_z80_write(slot->header, sizeof slot->header, slot->area, sizeof slot->area, slot->out,
+                                     sizeof slot->out, &slot->length);
+    expect("write", number, SNAP_INVALID_MACHINE);
+    expect("the length", slot->length, 0);
+    expect_zero("output", slot->out, sizeof slot->out);
+    expect("model", snap_model(slot->header, sizeof slot->header, &model, &attachment), SNAP_INVALID_MACHINE);
+    expect("what is told of the model", (uint64_t)(model | attachment), 0);
+    expect_made(slot);
+}
+
 /* A view of a page, and all that is seen through it. */
 static void view_page(const struct server_slot *slot, uint8_t page, uint32_t due)
 {
@@ -156,6 +187,7 @@ const struct request_kind kinds[REQUEST_KINDS] = {
     {"damaged file", damaged_request},
     {"write", write_request},
     {"short output", short_write_request},
+    {"not valid", not_valid_request},
     {"view", view_request},
     {"absent page", absent_view_request},
     {"edit", edit_request},

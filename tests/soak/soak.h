@@ -72,7 +72,7 @@ void scs_damaged_request(struct server_slot *slot, uint64_t *seed);
 void scs_write_request(struct server_slot *slot, uint64_t *seed);
 
 /* requests.c */
-#define REQUEST_KINDS 11
+#define REQUEST_KINDS 12
 struct request_kind {
     const char *name;
     void (*run)(struct server_slot *slot, uint64_t *seed);

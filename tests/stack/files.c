@@ -75,7 +75,17 @@ static void try_cuts(const struct file *file)
     try_cut(file, file->length - 1);
 }
 
-/* The file as it is; accepted, it is also cut, its area compared where it is known, and its machine used. */
+/* Whether the last OUTs, byte 37 and the sound registers are as they are read from this file. */
+static int are_ports_read(const uint8_t *file, const uint8_t *header)
+{
+    static const uint8_t none[55];
+    const uint8_t *from = is_v1_file(file) ? none : file;
+    int is_128k = is_128(header), has_chip = is_128k || (from[37] & SNAP_EMULATION_SOUND) != 0;
+    return header[35] == (is_128k ? from[35] : 0) && header[37] == (from[37] & (is_128k ? 3 : 7))
+        && memcmp(header + 38, has_chip ? from + 38 : none, 17) == 0;
+}
+
+/* The file as it is; accepted, it is also cut, its area and its ports compared, and its machine used. */
 void try_file(const char *name, const uint8_t *bytes, size_t length, struct refused_at due, const uint8_t *area)
 {
     static const uint8_t zeros[SNAP_AREA_SIZE];
@@ -90,8 +100,10 @@ void try_file(const char *name, const uint8_t *bytes, size_t length, struct refu
         area = zeros;
     if (area != NULL)
         expect_holds(file->name, "the area is not what it must be", memcmp(ordinary.area, area, SNAP_AREA_SIZE) == 0);
-    if (due.number == 0)
-        use_machine(file->name);
+    if (due.number != 0)
+        return;
+    expect_holds(file->name, "the ports are not what they must be", are_ports_read(bytes, ordinary.header));
+    use_machine(file->name);
 }
 
 /* The number that reading a stored file gives: the table's, and 0 for a sample. All that are refused have a bad header. */

@@ -9,21 +9,38 @@ static int owns(unsigned page)
     return page == 0 || page == 2 || page == 5 || page == 8;
 }
 
+/* A header that the writer does not make; four ways for a 128K, six for a 48K. */
+static void spoil(uint8_t *header, unsigned way)
+{
+    static const uint8_t bytes[3] = {29, 60, 37}, bits[3] = {3, 3, 8}; /* interrupt mode 3, a Multiface paged in, a bit too high */
+    if (way < 3) {
+        header[bytes[way]] |= bits[way];
+    } else if (is_128(header)) {
+        header[37] |= SNAP_EMULATION_SOUND;
+    } else if (way == 3) {
+        header[35] = 1;
+    } else { /* a register without the sound chip, the first or the last */
+        header[37] &= (uint8_t)~SNAP_EMULATION_SOUND;
+        header[way == 4 ? 38 : 54] |= 1;
+    }
+}
+
 /* 20: header buffers of other lengths, and a header that the writer does not make. */
 void try_headers(const char *name, struct tried_call call)
 {
+    uint8_t kept[SNAP_HEADER_SIZE];
     static const size_t lengths[3] = {0, SNAP_HEADER_SIZE - 1, SNAP_HEADER_SIZE + 1};
     for (unsigned at = 0; at < 3; at++) {
         struct tried_call other = call;
         other.header_len = lengths[at];
         try_call(name, &other, SNAP_INVALID_MACHINE);
     }
-    for (unsigned at = 29; at < 61; at += 31) { /* 29: interrupt mode 3; 60: a Multiface paged in */
-        uint8_t kept = ordinary.header[at];
-        ordinary.header[at] |= 3;
+    memcpy(kept, ordinary.header, sizeof kept);
+    for (unsigned way = 0; way < (is_128(kept) ? 4 : 6); way++) {
+        spoil(ordinary.header, way);
         level();
         try_call(name, &call, SNAP_INVALID_MACHINE);
-        ordinary.header[at] = kept;
+        memcpy(ordinary.header, kept, sizeof kept);
         level();
     }
 }
