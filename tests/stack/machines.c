@@ -10,7 +10,7 @@ static int owns(unsigned page)
 }
 
 /* A header that the writer does not make; four ways for a 128K, six for a 48K. */
-static void spoil(uint8_t *header, unsigned way)
+static void spoil_machine(uint8_t *header, unsigned way)
 {
     static const uint8_t bytes[3] = {29, 60, 37}, bits[3] = {3, 3, 8}; /* interrupt mode 3, a Multiface paged in, a bit too high */
     if (way < 3) {
@@ -37,7 +37,7 @@ void try_headers(const char *name, struct tried_call call)
     }
     memcpy(kept, ordinary.header, sizeof kept);
     for (unsigned way = 0; way < (is_128(kept) ? 4 : 6); way++) {
-        spoil(ordinary.header, way);
+        spoil_machine(ordinary.header, way);
         level();
         try_call(name, &call, SNAP_INVALID_MACHINE);
         memcpy(ordinary.header, kept, sizeof kept);
