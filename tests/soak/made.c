@@ -66,6 +66,7 @@ void make_file(struct made *made)
     uint32_t number = snap_z80_write(made->header, sizeof made->header, made->area, sizeof made->area, made->file,
                                      sizeof made->file, &made->length);
     expect("writing the request's file", number, 0);
+    expect_bytes("the file's header", made->file, made->header, sizeof made->header);
 }
 
 void make_scs_file(struct made *made)

@@ -72,6 +72,7 @@ static void try_writes(const char *name)
         try_call(name, &call, rooms[at] < length ? SNAP_OUTPUT_SHORT : 0);
     }
     expect_holds(name, "the file is another in an output of its length", memcmp(file, ordinary.out, length) == 0);
+    expect_holds(name, "the file begins with another header", memcmp(file, header, sizeof header) == 0);
     try_lengths(name, usual(WRITE, &ordinary));
     call = usual(READ, &ordinary);
     call.file = file;

@@ -98,6 +98,22 @@ static void try_scs_cuts(const struct file *file)
         try_read(file->name, &call, (struct refused_at){0});
 }
 
+/* Whether the ports are as the Ports block of the file that is made has them; a 48K has the sound chip. */
+static int are_scs_ports_read(int is_128k)
+{
+    uint8_t ports[PORTS_BYTES] = {0};
+    const uint8_t *header = ordinary.header, *block = made.bytes + 15;
+    size_t size = 0;
+    for (;; block += 5 + size) {
+        size = block[1] + block[2] * 256u + block[3] * 65536u;
+        if (block[0] == 2)
+            break;
+    }
+    memcpy(ports, block + 5, size < sizeof ports ? size : sizeof ports);
+    return header[35] == (is_128k ? ports[1] : 0) && header[37] == (is_128k ? 0 : SNAP_EMULATION_SOUND)
+        && header[38] == ports[2] % 16 && memcmp(header + 39, ports + 3, 16) == 0;
+}
+
 /* The file that is made: its area as `memory` has it, less pages that a 48K does not own. */
 static void read_scs(const char *name, int is_128k)
 {
@@ -112,6 +128,7 @@ static void read_scs(const char *name, int is_128k)
     try_scs_cuts(file);
     try_read(name, &call, (struct refused_at){0});
     expect_holds(name, "the area is not what it must be", memcmp(ordinary.area, due, sizeof due) == 0);
+    expect_holds(name, "the ports are not what they must be", are_scs_ports_read(is_128k));
     use_machine(name);
 }
 
