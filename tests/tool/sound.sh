@@ -112,7 +112,7 @@ check "a 48K with the sound chip is corrected and undone, and has no paging" sou
 scs_chip() {
     local length
     for length in 0 1 2 3 19; do
-        { memory_block 48 5 2 0; cpu_block; xxd -r -p <<<"$ports" | head -c "$length" | block 2; } | scs 1 >"$work/chip.scs"
+        { memory_block 48 5 2 0; cpu_block; xxd -r -p <<<"${ports:0:2*length}" | block 2; } | scs 1 >"$work/chip.scs"
         run_tool 0 info "$work/chip.scs"
         grep -qxF "Sound      AY chip, last OUT to FFFD $([ "$length" -lt 3 ] && echo 00 || echo 07)" "$work/out"
         grep -qxF "           registers$([ "$length" -lt 19 ] && printf ' 00%.0s' {1..16} || printf ' %02X' {48..63})" "$work/out"
