@@ -87,7 +87,7 @@ scs_pages() {
     [ "$count" -eq 11 ]
     refuses 30 "$work/48.scs" view "$work/48.scs" 1
     # short memory is filled with zeros, the rest of a long one is left out
-    { head -c 20000 "$work/page128.0" "$work/page128.1" -q | head -c 17000 | block 3; cpu_block; ports_block; } | scs 1 >"$work/short.scs"
+    { { cat "$work/page128.0"; head -c 616 "$work/page128.1"; } | block 3; cpu_block; ports_block; } | scs 1 >"$work/short.scs"
     run_tool 0 view "$work/short.scs" 8000..BFFF --raw
     { head -c 616 "$work/page128.1"; head -c 15768 /dev/zero; } | cmp - "$work/out"
     { cat "$work"/page128.? | block 3; cpu_block; ports_block; } | scs 1 >"$work/long.scs"
