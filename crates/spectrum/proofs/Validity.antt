@@ -15,9 +15,6 @@ use Rattle.pages.specs.declared.Model.the-variants.{K48, K128}
 use Rattle.spectrum.specs.Valid.{zeros, soundFits, quietOf, validOf, Valid}
 use Rattle.spectrum.proofs.Zeros.{zeros-are, zeros-of}
 
-pub fits-with : (chip : Bool) (fffd : ℕ) (sound : List ℕ) → chip ≡ true → true ≡ soundFits chip fffd sound
-fits-with chip fffd sound e = rw e
-
 pub fits-without : (chip : Bool) (fffd : ℕ) (sound : List ℕ) (z r : Bool) → chip ≡ false → z ≡ zeros sound → r ≡ both (eqb fffd 0) z → r ≡ soundFits chip fffd sound
 fits-without chip fffd sound z r e p q = rw e (q ∙ ap (both (eqb fffd 0)) p)
 
@@ -37,14 +34,11 @@ record Quiet (model : Model) (m : Machine) : Type 0 where
 not-48 : K128 ≡ K48 → ⊥
 not-48 e = let z : _≡_ {A = ℕ} 0 1 = cc in omega arith
 
-not-128 : K48 ≡ K128 → ⊥
-not-128 e = let z : _≡_ {A = ℕ} 0 1 = cc in omega arith
-
 quiet-says : (model : Model) (m : Machine) → quietOf model m ≡ true → Quiet model m
 quiet-says K48 m h =
     let p = both-true _ _ h in
-    record { out7ffd = λ _. eqb-true (m .out7ffd) 0 (p .0); chip = λ e. absurd (not-128 e); sounds = p .1 }
-quiet-says K128 m h = record { out7ffd = λ e. absurd (not-48 e); chip = λ _. h; sounds = sym (fits-with (m .chip) _ _ h) }
+    record { out7ffd = λ _. eqb-true (m .out7ffd) 0 (p .0); chip = λ e. absurd (not-48 (sym e)); sounds = p .1 }
+quiet-says K128 m h = record { out7ffd = λ e. absurd (not-48 e); chip = λ _. h; sounds = rw h }
 
 -- without the chip nothing of it is there
 none-there : (chip : Bool) (fffd : ℕ) (sound : List ℕ) → length sound ≡ 16 → soundFits chip fffd sound ≡ true → chip ≡ false
