@@ -9,7 +9,7 @@ mod pairs;
 mod tests;
 
 pub use clock::{counters, position, quarter, BadCounter};
-pub use header::{flags, from_header, header, own_header, Version, HEADER};
+pub use header::{flags, from_header, header, own_header, Version, HEADER, SOUND};
 pub use paging::{owns, page_at};
 pub use pairs::PAIRS;
 
@@ -70,6 +70,8 @@ pub struct Machine {
     pub interface1_rom: u8,
     pub r_emulation: bool,
     pub ldir_emulation: bool,
+    /// Whether it has the sound chip; a 128K always has.
+    pub chip: bool,
     /// The last OUT to FFFD.
     pub sound_select: u8,
     pub sound: [u8; 16],
@@ -78,7 +80,7 @@ pub struct Machine {
 }
 
 impl Machine {
-    /// 48K, no attachment, every number 0, every switch off, video normal.
+    /// 48K, no attachment, no sound chip, every number 0, every switch off, video normal.
     pub fn blank() -> Machine {
         Machine {
             model: Model::K48,
@@ -111,6 +113,7 @@ impl Machine {
             interface1_rom: 0,
             r_emulation: false,
             ldir_emulation: false,
+            chip: false,
             sound_select: 0,
             sound: [0; 16],
             frame_position: 0,
@@ -118,13 +121,27 @@ impl Machine {
         }
     }
 
+    /// The blank machine as one of this model, with the chip where that is a 128K.
+    pub fn blank_as(model: Model) -> Machine {
+        Machine {
+            model,
+            chip: model == Model::K128,
+            ..Machine::blank()
+        }
+    }
+
     pub fn is_valid(&self) -> bool {
-        let silent = self.paging == 0 && self.sound_select == 0 && self.sound == [0; 16];
+        let is_silent = self.sound_select == 0 && self.sound == [0; 16];
+        let is_of_model = match self.model {
+            Model::K48 => self.paging == 0,
+            Model::K128 => self.chip,
+        };
         self.interrupt_mode <= 2
             && self.border <= 7
             && self.joystick <= 3
             && self.frame_position < 4 * quarter(self.model)
-            && (self.model == Model::K128 || silent)
+            && is_of_model
+            && (self.chip || is_silent)
     }
 
     /// The block numbers of the model's pages, ascending, each with its RAM page.

@@ -6,9 +6,8 @@ use crate::memory::{Rng, MEMORY, PAGE};
 
 fn machine(model: Model, last_out: u8) -> Machine {
     Machine {
-        model,
         paging: last_out,
-        ..Machine::blank()
+        ..Machine::blank_as(model)
     }
 }
 

@@ -6,6 +6,9 @@ use crate::refusal::{FileRefusal, Refusal};
 /// The length of a v3 header.
 pub const HEADER: usize = 86;
 
+/// The bit of byte 37 by which a 48K machine has the sound chip; it says nothing on a 128K.
+pub const SOUND: u8 = 0x04;
+
 #[derive(Debug, Clone, Copy, PartialEq, Eq)]
 pub enum Version {
     V1,
@@ -125,6 +128,9 @@ fn second_part(machine: &mut Machine, bytes: &[u8]) {
     machine.ldir_emulation = bytes[37] & 2 != 0;
     if machine.model == Model::K128 {
         machine.paging = bytes[35];
+    }
+    machine.chip = machine.model == Model::K128 || bytes[37] & SOUND != 0;
+    if machine.chip {
         machine.sound_select = bytes[38];
         machine.sound.copy_from_slice(&bytes[39..55]);
     }
@@ -156,7 +162,7 @@ pub fn header(machine: &Machine) -> [u8; HEADER] {
     bytes[34] = mode_byte(machine);
     bytes[35] = machine.paging;
     bytes[36] = machine.interface1_rom;
-    bytes[37] = u8::from(machine.r_emulation) | u8::from(machine.ldir_emulation) << 1;
+    bytes[37] = emulation(machine);
     bytes[38] = machine.sound_select;
     bytes[39..55].copy_from_slice(&machine.sound);
     let (low, high) = counters(machine.model, machine.frame_position);
@@ -204,6 +210,15 @@ fn switches(machine: &Machine) -> u8 {
         | u8::from(machine.double_interrupts) << 3
         | video << 4
         | machine.joystick << 6
+}
+
+/// Byte 37.
+fn emulation(machine: &Machine) -> u8 {
+    let sound = match machine.model {
+        Model::K48 if machine.chip => SOUND,
+        _ => 0,
+    };
+    u8::from(machine.r_emulation) | u8::from(machine.ldir_emulation) << 1 | sound
 }
 
 /// Byte 34 in v3.

@@ -1,5 +1,7 @@
 //! Counters, headers and validity.
 
+mod sound;
+
 use super::*;
 use crate::memory::Rng;
 
@@ -75,16 +77,9 @@ fn invalid_machines() {
             ..blank()
         },
         Machine {
-            sound_select: 1,
-            ..blank()
-        },
-        Machine {
-            sound: [1; 16],
-            ..blank()
-        },
-        Machine {
             model: Model::K128,
             frame_position: 70_908,
+            chip: true,
             ..blank()
         },
     ];

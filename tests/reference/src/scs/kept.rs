@@ -16,6 +16,7 @@ pub fn kept(machine: &Machine) -> Machine {
         interface1_rom: 0,
         r_emulation: false,
         ldir_emulation: false,
+        chip: true,
         sound_select: machine.sound_select % 16,
         frame_position: 0,
         side,

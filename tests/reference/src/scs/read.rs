@@ -83,9 +83,11 @@ fn machine(model: Model, cpu: &[u8], ports: &[u8]) -> Result<Machine, Refusal> {
     machine.border = ports[0] & 0x07;
     if model == Model::K128 {
         machine.paging = ports[1];
-        machine.sound_select = ports[2] & 0x0F;
-        machine.sound.copy_from_slice(&ports[3..19]);
     }
+    // a 48K too, and also where Ports is silent or short
+    machine.chip = true;
+    machine.sound_select = ports[2] & 0x0F;
+    machine.sound.copy_from_slice(&ports[3..19]);
     Ok(machine)
 }
 

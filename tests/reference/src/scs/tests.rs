@@ -1,6 +1,7 @@
 //! What document 02 says of SCS files, a test for each sentence.
 
 mod offsets;
+mod sound;
 
 use super::*;
 use crate::machine::{from_header, header, Machine, Version, HEADER};
@@ -76,6 +77,7 @@ fn counted_machine() -> Machine {
         iff2: true,
         border: 1,
         paging: 0x82,
+        chip: true,
         sound_select: 3,
         sound,
         side,
@@ -96,18 +98,19 @@ fn every_field_stands_where_the_format_has_it() {
     let due = Machine {
         model: Model::K48,
         paging: 0,
-        sound_select: 0,
-        sound: [0; 16],
         ..counted_machine()
     };
     assert_eq!(machine, due);
 }
 
 #[test]
-fn what_scs_does_not_hold_is_as_in_v1() {
+fn what_scs_does_not_hold_is_as_in_v1_but_for_the_chip() {
     let mut v1 = [0; 30];
     v1[6] = 1;
-    let as_v1 = from_header(Version::V1, &v1).expect("a v1 header");
+    let as_v1 = Machine {
+        chip: true,
+        ..from_header(Version::V1, &v1).expect("a v1 header")
+    };
     let mut cpu = [0; 34];
     cpu[20] = 1;
     let parts = [block(3, &[]), block(1, &cpu), block(2, &[])];

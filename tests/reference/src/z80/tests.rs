@@ -56,9 +56,7 @@ fn written(header: &[u8], area: &[u8], room: usize) -> Result<Vec<u8>, u32> {
 }
 
 fn machine(model: Model) -> Machine {
-    let mut machine = Machine::blank();
-    machine.model = model;
-    machine
+    Machine::blank_as(model)
 }
 
 #[test]
