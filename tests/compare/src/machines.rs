@@ -1,11 +1,35 @@
-//! Random machines.
+//! Random machines, whole and damaged.
 
 use reference::journal::LOCK;
-use reference::machine::{from_header, Machine, Model, Version, HEADER};
+use reference::machine::{from_header, Machine, Model, Version, HEADER, SOUND};
 use reference::memory::Rng;
+
+/// Whether a machine has the sound chip, and whether all that the chip holds is 0.
+#[derive(Debug, Clone, Copy, PartialEq, Eq)]
+pub enum ChipState {
+    Missing,
+    Silent,
+    Sounding,
+}
+
+/// What the machines of each model have.
+pub const CHIP_STATES: [(Model, ChipState); 5] = [
+    (Model::K48, ChipState::Missing),
+    (Model::K48, ChipState::Silent),
+    (Model::K48, ChipState::Sounding),
+    (Model::K128, ChipState::Silent),
+    (Model::K128, ChipState::Sounding),
+];
 
 /// A valid machine, random in everything.
 pub fn machine(rng: &mut Rng, model: Model) -> Machine {
+    let states: Vec<_> = CHIP_STATES.iter().filter(|(of, _)| *of == model).collect();
+    let (_, state) = rng.pick(&states);
+    with_chip(rng, model, *state)
+}
+
+/// A valid machine with this for its sound, random in all else.
+pub fn with_chip(rng: &mut Rng, model: Model, state: ChipState) -> Machine {
     let mut bytes = rng.bytes(HEADER);
     bytes[6..8].fill(0);
     bytes[34] = match model {
@@ -14,6 +38,14 @@ pub fn machine(rng: &mut Rng, model: Model) -> Machine {
     };
     if bytes[29] & 3 == 3 {
         bytes[29] ^= 1 << rng.below(2);
+    }
+    match state {
+        ChipState::Missing => bytes[37] &= !SOUND,
+        ChipState::Silent => bytes[38..55].fill(0),
+        ChipState::Sounding => bytes[38 + rng.below(17)] |= 1 << rng.below(8),
+    }
+    if state != ChipState::Missing {
+        bytes[37] |= SOUND;
     }
     bytes[56] %= 0x44;
     bytes[57] &= 3;
@@ -28,4 +60,15 @@ pub fn machine(rng: &mut Rng, model: Model) -> Machine {
 /// The header of a random machine.
 pub fn header(rng: &mut Rng, model: Model) -> Vec<u8> {
     reference::machine::header(&machine(rng, model)).to_vec()
+}
+
+/// Damages a good header: sound registers without the chip, or on a 128K the bit that only a 48K has.
+pub fn damage_sound(rng: &mut Rng, header: &mut [u8]) {
+    match header[34] {
+        0..=3 => {
+            header[37] &= !SOUND;
+            header[38 + rng.below(17)] |= 1 << rng.below(8);
+        }
+        _ => header[37] |= SOUND,
+    }
 }

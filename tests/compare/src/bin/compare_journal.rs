@@ -29,7 +29,7 @@ const LOGS: [(usize, u64); 8] = [
 
 type Run = fn(&mut Group, &mut JournalChecker, &mut Rng) -> Outcome;
 
-const GROUPS: [(&str, Run); 20] = [
+const GROUPS: [(&str, Run); 21] = [
     ("examples", |g, c, _| start_groups::examples(g, c)),
     ("start logs of many lengths", |g, c, _| {
         start_groups::lengths(g, c)
@@ -51,6 +51,7 @@ const GROUPS: [(&str, Run); 20] = [
     ("invented numbers", order_groups::invented_numbers),
     ("other buffers", order_groups::buffers),
     ("every header byte", header_groups::every_byte),
+    ("every value of byte 37", header_groups::sound),
     ("changed headers", header_groups::changed),
 ];
 
@@ -70,6 +71,9 @@ fn main() -> ExitCode {
     });
     report.group("view, every header byte", |g| {
         view_groups::every_header_byte(g, check, rng)
+    });
+    report.group("view, every value of byte 37", |g| {
+        view_groups::sound(g, check, rng)
     });
     report.fact("every number seen", check.seen.all(LEAST_CALLS));
     report.finish()

@@ -28,13 +28,14 @@ const MACHINES: [(&str, (Model, Attachment)); 6] = [
 
 type Run = fn(&mut Group, &mut LookChecker, &mut Rng) -> Outcome;
 
-const GROUPS: [(&str, Run); 8] = [
+const GROUPS: [(&str, Run); 9] = [
     ("machines of the stored files", groups::stored),
     ("every address", groups::every_address),
     ("every last OUT", groups::every_last_out),
     ("every value of every pair", groups::every_value),
     ("every bit of a header", groups::every_bit),
     ("every value of every header byte", groups::every_byte),
+    ("every value of byte 37", groups::sound),
     ("headers of every length", groups::every_length),
     ("changed headers and noise", groups::noise),
 ];

@@ -11,7 +11,7 @@ use compare::report::{Group, Outcome, Report};
 use scs::maker::ScsMaker;
 use scs::place_groups::SCS_TOLD_PLACES;
 use scs::{block_groups, cut_groups, fault_groups, field_groups};
-use scs::{place_groups, size_groups, start_groups, write_groups};
+use scs::{place_groups, size_groups, sound_groups, start_groups, write_groups};
 use std::process::ExitCode;
 
 /// Generated files that a run must at least read.
@@ -19,7 +19,7 @@ const LEAST_SCS_FILES: u64 = 200_000;
 
 type Run = fn(&mut Group, &mut FileChecker, &mut ScsMaker) -> Outcome;
 
-const GROUPS: [(&str, Run); 32] = [
+const GROUPS: [(&str, Run); 35] = [
     ("examples", |g, c, _| start_groups::examples(g, c)),
     ("every hardware number", start_groups::hardware),
     ("every byte of the start", start_groups::every_byte),
@@ -41,6 +41,7 @@ const GROUPS: [(&str, Run); 32] = [
     ("cuts of whole files", cut_groups::whole_files),
     ("every value of a field", field_groups::every_value),
     ("random machines", field_groups::random_machines),
+    ("sound of every Ports block", sound_groups::ports),
     ("one damaged place", fault_groups::single),
     ("several damaged places", fault_groups::several),
     ("two damaged blocks", fault_groups::in_two_blocks),
@@ -51,6 +52,8 @@ const GROUPS: [(&str, Run); 32] = [
     ("write into outputs", write_groups::rooms),
     ("write whole images", write_groups::whole_images),
     ("write every header byte", write_groups::every_header_byte),
+    ("write every value of byte 37", sound_groups::headers),
+    ("write with and without the chip", sound_groups::chips),
     ("write foreign headers", write_groups::foreign_headers),
 ];
 

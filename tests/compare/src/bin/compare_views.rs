@@ -42,6 +42,9 @@ fn main() -> ExitCode {
     report.group("view_page, every header byte", |g| {
         groups::every_header_byte(g, check, sources, rng)
     });
+    report.group("view_page, every value of byte 37", |g| {
+        groups::sound(g, check, sources, rng)
+    });
     report.group("outputs of every kind of length", |g| {
         groups::outputs(g, check, sources, rng)
     });

@@ -12,14 +12,14 @@ use std::process::ExitCode;
 use z80::maker::Maker;
 use z80::place_groups::TOLD_PLACES;
 use z80::{block_groups, code_groups, explain_groups, fault_groups, head_groups, header_groups};
-use z80::{order_groups, place_groups, told_figures, write_groups};
+use z80::{order_groups, place_groups, sound_groups, told_figures, write_groups};
 
 /// Generated files that a run must at least read and explain.
 const LEAST_FILES: u64 = 200_000;
 
 type Run = fn(&mut Group, &mut FileChecker, &mut Maker) -> Outcome;
 
-const GROUPS: [(&str, Run); 43] = [
+const GROUPS: [(&str, Run); 47] = [
     ("examples", |g, c, _| header_groups::examples(g, c)),
     ("every mode", header_groups::modes),
     ("every value of byte 12", |g, c, m| {
@@ -28,6 +28,8 @@ const GROUPS: [(&str, Run); 43] = [
     ("every value of byte 29", |g, c, m| {
         header_groups::every_value(g, c, m, 29)
     }),
+    ("every value of byte 37", sound_groups::every_value),
+    ("every value of byte 37 of v1", sound_groups::v1_bodies),
     ("every header byte", header_groups::every_byte),
     ("T state counters", header_groups::counters),
     ("read into other buffers", header_groups::buffers),
@@ -66,6 +68,8 @@ const GROUPS: [(&str, Run); 43] = [
     ("write into outputs", write_groups::rooms),
     ("write whole images", write_groups::whole_images),
     ("write every header byte", write_groups::every_header_byte),
+    ("write every value of byte 37", sound_groups::headers),
+    ("write with and without the chip", sound_groups::chips),
     ("write foreign headers", write_groups::foreign_headers),
 ];
 

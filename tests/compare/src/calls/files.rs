@@ -193,6 +193,11 @@ impl FileChecker {
         (self.header.part().to_vec(), self.area.part().to_vec())
     }
 
+    /// The header of the last accepted read.
+    pub fn last_header(&self) -> &[u8] {
+        self.header.part()
+    }
+
     /// Writes into an output of `room` bytes, and answers the number.
     pub fn write_into(
         &mut self,

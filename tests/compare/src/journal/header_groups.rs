@@ -4,6 +4,7 @@ use super::forge::{self, MODELS, MOVES};
 use compare::calls::journal::JournalChecker;
 use compare::machines::header;
 use compare::report::{Group, Outcome};
+use compare::sounds::each_header;
 use reference::journal::Call;
 use reference::machine::HEADER;
 use reference::memory::Rng;
@@ -30,6 +31,30 @@ pub fn every_byte(group: &mut Group, check: &mut JournalChecker, rng: &mut Rng) 
         }
     }
     Ok(())
+}
+
+/// Headers of every value of byte 37, all calls: 20, or another answer.
+pub fn sound(group: &mut Group, check: &mut JournalChecker, rng: &mut Rng) -> Outcome {
+    forge::area(check, rng);
+    let mut calls_rng = Rng::new(rng.word());
+    each_header(rng, |header| {
+        let rng = &mut calls_rng;
+        for asked in calls(rng) {
+            forge::good(
+                check,
+                rng,
+                MODELS[usize::from(header.bytes[34] > 3)],
+                1,
+                asked,
+            );
+            check.lent.header = header.bytes.to_vec();
+            let answer = check.call(group, asked)?;
+            if (answer == 20) == header.is_ours {
+                return Err(format!("the reference answers {answer} to {asked:?}"));
+            }
+        }
+        Ok(())
+    })
 }
 
 /// Headers with some bytes changed, and random bytes.

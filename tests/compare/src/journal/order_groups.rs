@@ -3,7 +3,7 @@
 use super::forge::{self, MODELS, MOVES};
 use compare::calls::journal::JournalChecker;
 use compare::choice::Choice;
-use compare::machines::header;
+use compare::machines::{damage_sound, header};
 use compare::report::{Group, Outcome};
 use reference::journal::{capacity, Call, Correction, Step, LOCK};
 use reference::machine::{Model, HEADER};
@@ -77,10 +77,11 @@ fn numbers(check: &mut JournalChecker, rng: &mut Rng, out_of_order: bool, full: 
 fn common(check: &mut JournalChecker, rng: &mut Rng, bad_header: bool, bad_area: bool) {
     if bad_header {
         let header = &mut check.lent.header;
-        match rng.below(4) {
+        match rng.below(5) {
             0 => header[60] = 1,
             1 => header[12] |= 0x40,
-            2 => header.truncate(rng.below(HEADER)),
+            2 => damage_sound(rng, header),
+            3 => header.truncate(rng.below(HEADER)),
             _ => header.push(0),
         }
     }

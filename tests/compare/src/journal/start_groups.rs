@@ -25,9 +25,8 @@ fn byte(address: u16, value: u8) -> Call {
 
 fn lend(check: &mut JournalChecker, model: Model, last_out: u8, log_length: usize) {
     let machine = Machine {
-        model,
         paging: last_out,
-        ..Machine::blank()
+        ..Machine::blank_as(model)
     };
     check.lend_area(vec![0; MEMORY]);
     check.lent.header = header(&machine).to_vec();

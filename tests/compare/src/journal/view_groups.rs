@@ -3,8 +3,9 @@
 use compare::calls::journal::JournalChecker;
 use compare::calls::{note, outcome, view};
 use compare::lent::LentPart;
-use compare::machines::header;
+use compare::machines::{damage_sound, header};
 use compare::report::{Group, Outcome};
+use compare::sounds::each_header;
 use reference::machine::{Model, HEADER};
 use reference::memory::{Rng, MEMORY, PAGE};
 
@@ -55,9 +56,10 @@ fn headers(rng: &mut Rng) -> Vec<Vec<u8>> {
     let mut all = Vec::new();
     for model in [Model::K48, Model::K128] {
         let good = header(rng, model);
-        let mut damaged = good.clone();
+        let (mut damaged, mut other_sound) = (good.clone(), good.clone());
         damaged[58] = 1;
-        all.extend([damaged, good[..HEADER - 1].to_vec()]);
+        damage_sound(rng, &mut other_sound);
+        all.extend([damaged, other_sound, good[..HEADER - 1].to_vec()]);
         all.push([&good[..], &[0]].concat());
         all.push(good);
         all.push(header(rng, model));
@@ -84,4 +86,24 @@ pub fn every_header_byte(group: &mut Group, check: &mut JournalChecker, rng: &mu
         }
     }
     Ok(())
+}
+
+/// Headers of every value of byte 37, with the ROM of either model: 20, or another answer.
+pub fn sound(group: &mut Group, check: &mut JournalChecker, rng: &mut Rng) -> Outcome {
+    let area = LentPart::new(MEMORY, rng.word());
+    let roms = [PAGE, 2 * PAGE].map(|rom| LentPart::new(rom, rng.word()));
+    let fill = rng.word();
+    each_header(rng, |header| {
+        let bytes = LentPart::holding(&header.bytes, fill);
+        for rom in &roms {
+            for page in [0, 9] {
+                group.inputs += 1;
+                let answer = view::call(&mut check.seen, &bytes, rom, &area, page)?;
+                if (answer == 20) == header.is_ours {
+                    return Err(format!("the reference answers {answer}"));
+                }
+            }
+        }
+        Ok(())
+    })
 }

@@ -2,7 +2,9 @@
 
 use super::checks::LookChecker;
 use super::headers::{addresses, borders, every_pair, of_kind, ours, MACHINE_KINDS};
+use compare::machines::damage_sound;
 use compare::report::{Group, Outcome};
+use compare::sounds::each_header;
 use reference::machine::{header, Attachment, Machine, Model, HEADER, PAIRS};
 use reference::memory::Rng;
 use reference::samples::samples;
@@ -62,7 +64,11 @@ pub fn every_address(group: &mut Group, check: &mut LookChecker, rng: &mut Rng) 
         }
         let mut damaged = ours(rng, kind);
         damaged[58] = 1;
-        look(group, check, &damaged, &[], &all)?;
+        let mut other_sound = ours(rng, kind);
+        damage_sound(rng, &mut other_sound);
+        for refused in [damaged, other_sound] {
+            look(group, check, &refused, &[], &all)?;
+        }
     }
     Ok(())
 }
@@ -123,6 +129,20 @@ pub fn every_byte(group: &mut Group, check: &mut LookChecker, rng: &mut Rng) -> 
         }
     }
     Ok(())
+}
+
+/// Headers of every value of byte 37.
+pub fn sound(group: &mut Group, check: &mut LookChecker, rng: &mut Rng) -> Outcome {
+    let pairs = [0, PAIRS - 1, PAIRS];
+    each_header(rng, |header| {
+        look(
+            group,
+            check,
+            &header.bytes,
+            &pairs,
+            &[0x3FFF, 0x4000, 0xC000],
+        )
+    })
 }
 
 /// Headers of 0 to 90 bytes: the beginning of a good one, or a good one and zeros, itself or noise.

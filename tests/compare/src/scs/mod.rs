@@ -9,5 +9,6 @@ pub mod maker;
 pub mod place_groups;
 pub mod sample;
 pub mod size_groups;
+pub mod sound_groups;
 pub mod start_groups;
 pub mod write_groups;

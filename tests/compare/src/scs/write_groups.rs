@@ -4,7 +4,7 @@ use super::field_groups::comes_back;
 use super::maker::{ScsMaker, MODELS};
 use compare::calls::expect;
 use compare::calls::files::FileChecker;
-use compare::machines;
+use compare::machines::{self, damage_sound, with_chip, CHIP_STATES};
 use compare::report::{Group, Outcome};
 use reference::machine::{header, own_header, Machine, Model, HEADER};
 use reference::memory::{images, MEMORY};
@@ -60,18 +60,19 @@ pub fn whole_images(group: &mut Group, check: &mut FileChecker, maker: &mut ScsM
     Ok(())
 }
 
-/// Every value of every byte of a header of each model; one in 16 that are the writer's own is written.
+/// Every value of every byte of a header of each model, with and without the chip; one in 16 that are the writer's own
+/// is written.
 pub fn every_header_byte(
     group: &mut Group,
     check: &mut FileChecker,
     maker: &mut ScsMaker,
 ) -> Outcome {
     let memory = memory(maker);
-    for model in MODELS {
-        let good = machines::header(&mut maker.rng, model);
+    for (model, state) in CHIP_STATES {
+        let good = header(&with_chip(&mut maker.rng, model, state));
         for at in 0..HEADER {
             for value in 0..=255 {
-                let mut bytes = good.clone();
+                let mut bytes = good;
                 bytes[at] = value;
                 let due = if own_header(&bytes).is_some() { 22 } else { 20 };
                 expect(check.write_into(group, &bytes, &memory, 88)?, due)?;
@@ -114,10 +115,18 @@ pub fn buffers(group: &mut Group, check: &mut FileChecker, maker: &mut ScsMaker)
     for case in 0..20 {
         let model = MODELS[case % 2];
         let good = machines::header(&mut maker.rng, model);
-        let mut bad = good.clone();
+        let (mut bad, mut other_sound) = (good.clone(), good.clone());
         bad[60] = 1;
+        damage_sound(&mut maker.rng, &mut other_sound);
         let longer = [&good[..], &[0]].concat();
-        for bytes in [&good[..], &bad, &good[..85], &good[..0], &longer] {
+        for bytes in [
+            &good[..],
+            &bad,
+            &other_sound,
+            &good[..85],
+            &good[..0],
+            &longer,
+        ] {
             for area in [0, 1, MEMORY - 1, MEMORY, MEMORY + 1] {
                 let mut memory = memory(maker);
                 memory.resize(area, 0);
@@ -150,5 +159,9 @@ pub fn blank(group: &mut Group, check: &mut FileChecker) -> Outcome {
     }
     let bytes = header(&Machine::blank());
     expect(check.write_into(group, &bytes, &memory, due.len())?, 0)?;
-    expect(check.read(group, &due)?, 0)
+    expect(check.read(group, &due)?, 0)?;
+    match check.last_header()[35..55] {
+        [0, 0, 4, ..] => Ok(()),
+        _ => Err("the blank machine comes back without the chip".into()),
+    }
 }

@@ -4,8 +4,9 @@ use super::checks::ViewChecker;
 use super::sources::{Source, Sources, ViewInput};
 use crate::ffi_view;
 use compare::lent::LentPart;
-use compare::machines::machine;
+use compare::machines::{damage_sound, machine};
 use compare::report::{Group, Outcome};
+use compare::sounds::each_header;
 use reference::machine::{header, Attachment, Machine, Model, HEADER};
 use reference::memory::{Rng, PAGE};
 
@@ -25,15 +26,26 @@ fn ours(rng: &mut Rng, model: Model, attachment: Attachment) -> Vec<u8> {
     header(&machine).to_vec()
 }
 
-/// A header of ours; with any byte changed, which may be ours; damaged, which is not; and of 85, 87 and 0 bytes.
-fn headers(rng: &mut Rng, model: Model, attachment: Attachment) -> [Vec<u8>; 6] {
+/// A header of ours; with any byte changed, which may be ours; damaged, also in its sound, which is not; and of 85, 87
+/// and 0 bytes.
+fn headers(rng: &mut Rng, model: Model, attachment: Attachment) -> [Vec<u8>; 7] {
     let good = ours(rng, model, attachment);
     let (mut changed, mut damaged) = (good.clone(), good.clone());
     changed[rng.below(HEADER)] ^= 1 + rng.below(255) as u8;
     damaged[58] = 1;
+    let mut other_sound = good.clone();
+    damage_sound(rng, &mut other_sound);
     let shorter = good[..HEADER - 1].to_vec();
     let longer = [&good[..], &[0]].concat();
-    [good, changed, damaged, shorter, longer, Vec::new()]
+    [
+        good,
+        changed,
+        damaged,
+        other_sound,
+        shorter,
+        longer,
+        Vec::new(),
+    ]
 }
 
 /// A header, at least every other time a good one.
@@ -99,6 +111,26 @@ pub fn every_header_byte(
         }
     }
     Ok(())
+}
+
+/// Headers of every value of byte 37, with the ROM of either model.
+pub fn sound(
+    group: &mut Group,
+    check: &mut ViewChecker,
+    sources: &Sources,
+    rng: &mut Rng,
+) -> Outcome {
+    let mut fills = Rng::new(rng.word());
+    each_header(rng, |header| {
+        let header = Source::new(header.bytes.to_vec(), &mut fills);
+        for rom_of in MODELS {
+            let from = sources.right(&header, rom_of);
+            for page in [0, 9] {
+                check.page(group, from, page, PAGE)?;
+            }
+        }
+        Ok(())
+    })
 }
 
 /// Outputs of every kind of length, for pages that are given and for each refusal.

@@ -5,7 +5,7 @@ use super::maker::{Maker, VERSIONS};
 use compare::calls::expect;
 use compare::calls::files::FileChecker;
 use compare::report::{Group, Outcome};
-use reference::machine::{header, Machine, Version, HEADER};
+use reference::machine::{header, Machine, Version, HEADER, SOUND};
 use reference::memory::MEMORY;
 
 /// The examples that are run: short files and a short area.
@@ -68,10 +68,19 @@ pub fn every_value(
     Ok(())
 }
 
-/// Every value of every header byte of a short file of each version.
+/// Every value of every header byte of a short file of each version, of 48K ones with the chip and without.
 pub fn every_byte(group: &mut Group, check: &mut FileChecker, maker: &mut Maker) -> Outcome {
-    for (version, mode) in [(Version::V1, 0), (Version::V2, 0), (Version::V3, 4)] {
-        let sample = maker.short(version, mode);
+    for (version, mode, sound) in [
+        (Version::V1, 0, 0),
+        (Version::V2, 0, 0),
+        (Version::V2, 1, SOUND),
+        (Version::V3, 3, SOUND),
+        (Version::V3, 4, 0),
+    ] {
+        let mut sample = maker.short(version, mode);
+        if version != Version::V1 {
+            sample.header[37] = sample.header[37] & !SOUND | sound;
+        }
         let good = sample.bytes();
         for at in 0..sample.header.len() {
             for value in 0..=255 {

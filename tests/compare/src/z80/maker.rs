@@ -81,6 +81,9 @@ impl Maker {
         header[6..8].fill(0);
         (header[30], header[31]) = (header.len() as u8 - 32, 0);
         header[34] = mode;
+        if rng.once_in(4) {
+            header[38..55].fill(0);
+        }
         if version == Version::V3 {
             let low = rng.below(quarter(model) as usize) as u16;
             header[55..57].copy_from_slice(&low.to_le_bytes());

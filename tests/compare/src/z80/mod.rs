@@ -12,5 +12,6 @@ pub mod maker;
 pub mod order_groups;
 pub mod place_groups;
 pub mod sample;
+pub mod sound_groups;
 pub mod told_figures;
 pub mod write_groups;

@@ -3,6 +3,7 @@
 use super::maker::Maker;
 use compare::calls::expect;
 use compare::calls::files::FileChecker;
+use compare::machines::damage_sound;
 use compare::report::{Group, Outcome};
 use reference::machine::{header, own_header, Machine, Model, Version, HEADER};
 use reference::memory::{images, Rng, MEMORY};
@@ -44,10 +45,7 @@ pub fn rooms(group: &mut Group, check: &mut FileChecker, maker: &mut Maker) -> O
 pub fn whole_images(group: &mut Group, check: &mut FileChecker, maker: &mut Maker) -> Outcome {
     for (_, memory) in images(maker.rng.word()) {
         for model in [Model::K48, Model::K128] {
-            let machine = Machine {
-                model,
-                ..Machine::blank()
-            };
+            let machine = Machine::blank_as(model);
             let length = write(&machine, &memory).len();
             for room in [length, LONGEST_FILE, 2 * MEMORY] {
                 let bytes = header(&machine);
@@ -58,13 +56,13 @@ pub fn whole_images(group: &mut Group, check: &mut FileChecker, maker: &mut Make
     Ok(())
 }
 
-/// Every value of every byte of a 48K and of a 128K header.
+/// Every value of every byte of a 48K header, of one with the chip, and of a 128K header.
 pub fn every_header_byte(group: &mut Group, check: &mut FileChecker, maker: &mut Maker) -> Outcome {
     let memory = vec![maker.rng.byte(); MEMORY];
-    for model in [Model::K48, Model::K128] {
+    for (model, chip) in [(Model::K48, false), (Model::K48, true), (Model::K128, true)] {
         let machine = Machine {
-            model,
-            ..Machine::blank()
+            chip,
+            ..Machine::blank_as(model)
         };
         for at in 0..HEADER {
             for value in 0..=255 {
@@ -117,10 +115,18 @@ pub fn buffers(group: &mut Group, check: &mut FileChecker, maker: &mut Maker) ->
     for _ in 0..20 {
         let (machine, memory) = machine(maker);
         let good = header(&machine);
-        let mut bad = good;
+        let (mut bad, mut other_sound) = (good, good);
         bad[60] = 1;
+        damage_sound(&mut maker.rng, &mut other_sound);
         let longer = [&good[..], &[0]].concat();
-        for bytes in [&good[..], &bad, &good[..85], &good[..0], &longer] {
+        for bytes in [
+            &good[..],
+            &bad,
+            &other_sound,
+            &good[..85],
+            &good[..0],
+            &longer,
+        ] {
             for area in [0, 1, MEMORY - 1, MEMORY, MEMORY + 1] {
                 let mut memory = memory.clone();
                 memory.resize(area, 0);
@@ -141,10 +147,7 @@ pub fn buffers(group: &mut Group, check: &mut FileChecker, maker: &mut Maker) ->
 /// No file is longer than 131,182 bytes, and this one is just that.
 pub fn longest_file(group: &mut Group, check: &mut FileChecker) -> Outcome {
     let memory = [0xED, 0x00].repeat(MEMORY / 2);
-    let machine = Machine {
-        model: Model::K128,
-        ..Machine::blank()
-    };
+    let machine = Machine::blank_as(Model::K128);
     let bytes = header(&machine);
     expect(check.write_into(group, &bytes, &memory, LONGEST_FILE)?, 0)?;
     expect(
