@@ -19,6 +19,7 @@ FIELD(ix, ix) FIELD(iy, iy) FIELD(sp, sp) FIELD(pc, pc) FIELD(i, i) FIELD(r, r)
 FIELD(iff1, iff1) FIELD(iff2, iff2) FIELD(interrupt_mode, im) FIELD(border, out_ula)
 FIELD(t_states, tstates) FIELD(interface1, interface1_active) FIELD(interface1_rom, interface1_paged)
 FIELD(mgt, plusd_active) FIELD(mgt_rom, plusd_paged)
+FIELD(melodik, melodik_active) FIELD(fuller, fuller_box_active)
 
 /* A field whose number is shown in another way. */
 #define SHOWN(name, field, shown) \
@@ -26,13 +27,17 @@ FIELD(mgt, plusd_active) FIELD(mgt_rom, plusd_paged)
     static void set_##name(libspectrum_snap *s, value v) { libspectrum_snap_set_##field(s, v); }
 
 static int is_128(libspectrum_snap *s) { return libspectrum_snap_machine(s) == LIBSPECTRUM_MACHINE_128; }
+static int has_chip(libspectrum_snap *s)
+{
+    return is_128(s) || libspectrum_snap_melodik_active(s) || libspectrum_snap_fuller_box_active(s);
+}
 static value get_model(libspectrum_snap *s) { return is_128(s) ? 128 : 48; }
 static void set_model(libspectrum_snap *s, value v) { (void)s; (void)v; /* the kind is set before */ }
 
 SHOWN(issue2, issue2, libspectrum_snap_issue2(s) != 0)
-/* On a 48K libspectrum shows its own defaults. */
+/* On a 48K, and without the sound chip, libspectrum shows its own defaults. */
 SHOWN(paging, out_128_memoryport, is_128(s) ? libspectrum_snap_out_128_memoryport(s) : 0)
-SHOWN(sound_select, out_ay_registerport, is_128(s) ? libspectrum_snap_out_ay_registerport(s) : 0)
+SHOWN(sound_select, out_ay_registerport, has_chip(s) ? libspectrum_snap_out_ay_registerport(s) : 0)
 
 /* By the number in the file. */
 static const libspectrum_joystick joysticks[4] = {
@@ -61,7 +66,7 @@ static const setting settings[] = {
     ROW(alt_a), ROW(alt_f), ROW(alt_bc), ROW(alt_de), ROW(alt_hl),
     ROW(ix), ROW(iy), ROW(sp), ROW(pc), ROW(i), ROW(r), ROW(iff1), ROW(iff2), ROW(interrupt_mode),
     ROW(border), ROW(issue2), ROW(joystick), ROW(t_states),
-    ROW(interface1), ROW(mgt), ROW(mgt_rom), ROW(paging), ROW(sound_select),
+    ROW(interface1), ROW(mgt), ROW(mgt_rom), ROW(melodik), ROW(fuller), ROW(paging), ROW(sound_select),
     ROW(interface1_rom),
 };
 #define SETTINGS (sizeof settings / sizeof *settings)

@@ -18,12 +18,21 @@ pub enum BlockStoring {
     Plain,
 }
 
+/// What the second program takes for the sound chip of a 48K.
+#[derive(Debug, Clone, Copy, PartialEq, Eq)]
+pub enum SoundBox {
+    Melodik,
+    Fuller,
+}
+
 /// One stored file.
 pub struct Sample {
     pub name: String,
     /// The machine's name in the program that makes the files.
     pub kind: &'static str,
     pub storing: BlockStoring,
+    /// On a 48K with the chip.
+    pub sound_box: Option<SoundBox>,
     /// The answer of a reader.
     pub number: u32,
     /// What an accepting reader gets.

@@ -1,6 +1,6 @@
 //! A machine as lines of names and numbers, which the C programs read and write.
 
-use super::Sample;
+use super::{Sample, SoundBox};
 use crate::machine::{Attachment, Machine, Model};
 
 /// The lines of a machine that the second program reads from a file. Numbers are decimal.
@@ -56,6 +56,9 @@ fn switches(machine: &Machine) -> String {
         line("interface1", attached(Attachment::Interface1)),
         line("mgt", attached(Attachment::Mgt)),
         line("mgt_rom", machine.side[0] != 0),
+        // the only one that our byte 37 can say
+        line("melodik", machine.model == Model::K48 && machine.chip),
+        line("fuller", false),
     ]
     .concat()
 }
@@ -70,11 +73,17 @@ pub fn asked(sample: &Sample) -> String {
         text += "interrupt_mode 3\n";
     }
     if sample.machine.model == Model::K48 {
-        // the program stores these on a 48K too, where they carry nothing
-        text += "sound_select 7\npaging 23\n";
+        text += "paging 23\n";
+    }
+    if !sample.machine.chip {
+        // the program may store these on a 48K without the chip too, where they carry nothing
+        text += "sound_select 7\n";
         for register in 0..16u8 {
             text += &line(&format!("sound{register}"), 160 + register);
         }
+    }
+    if sample.sound_box == Some(SoundBox::Fuller) {
+        text += "melodik 0\nfuller 1\n";
     }
     text
 }
