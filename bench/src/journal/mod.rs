@@ -50,9 +50,8 @@ pub struct FullLog {
 impl FullLog {
     pub fn new() -> FullLog {
         let machine = Machine {
-            model: Model::K128,
             paging: PAGE_AT,
-            ..Machine::blank()
+            ..Machine::blank_as(Model::K128)
         };
         let step = Step::byte(PAGE_AT, OFFSET, VALUES.0, VALUES.1);
         FullLog {

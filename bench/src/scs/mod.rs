@@ -26,10 +26,7 @@ pub struct ScsWork {
 
 impl ScsWork {
     pub fn new(model: Model) -> ScsWork {
-        let machine = Machine {
-            model,
-            ..Machine::blank()
-        };
+        let machine = Machine::blank_as(model);
         let (_, memory) = images(3).swap_remove(0);
         let file = scs::write(&machine, &memory);
         let (_, area) = scs::read(&file).expect("our own file");

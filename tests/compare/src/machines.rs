@@ -21,6 +21,20 @@ pub const CHIP_STATES: [(Model, ChipState); 5] = [
     (Model::K128, ChipState::Sounding),
 ];
 
+/// The place in this list of what a valid machine has.
+pub fn chip_state(machine: &Machine) -> usize {
+    let is_silent = machine.sound_select == 0 && machine.sound == [0; 16];
+    let state = match (machine.chip, is_silent) {
+        (false, _) => ChipState::Missing,
+        (true, true) => ChipState::Silent,
+        (true, false) => ChipState::Sounding,
+    };
+    let place = CHIP_STATES
+        .iter()
+        .position(|has| *has == (machine.model, state));
+    place.expect("a valid machine")
+}
+
 /// A valid machine, random in everything.
 pub fn machine(rng: &mut Rng, model: Model) -> Machine {
     let states: Vec<_> = CHIP_STATES.iter().filter(|(of, _)| *of == model).collect();

@@ -4,10 +4,12 @@ use super::input::Picked;
 use super::reached::{mark, FormatRows, BLOCK_ROW, FOUND_ROW, SCS_ROWS, Z80_ROWS};
 use compare::calls::files::FileChecker;
 use compare::calls::formats::{SCS_FORMAT, Z80_FORMAT};
+use compare::machines::chip_state;
 use compare::report::{Group, Outcome};
 use reference::machine::{own_header, Machine};
 use reference::memory::{MEMORY, PAGE};
 use reference::{scs, z80};
+use std::collections::BTreeSet;
 
 pub struct FormatTarget {
     pub checker: FileChecker,
@@ -18,6 +20,8 @@ pub struct FormatTarget {
     file_of: fn(&Machine, &[u8]) -> Vec<u8>,
     /// Whether reading a file also explains it.
     is_explained: bool,
+    /// What the machines that were read have for their sound, by its place in the list of these.
+    pub sounds: BTreeSet<usize>,
 }
 
 impl FormatTarget {
@@ -28,6 +32,7 @@ impl FormatTarget {
             case_of: z80_case,
             file_of: z80::write,
             is_explained: true,
+            sounds: BTreeSet::new(),
         }
     }
 
@@ -38,6 +43,7 @@ impl FormatTarget {
             case_of: scs_case,
             file_of: scs::write,
             is_explained: false,
+            sounds: BTreeSet::new(),
         }
     }
 
@@ -58,6 +64,11 @@ impl FormatTarget {
         }
         let (machine, memory) = checker.last_read();
         let room = picked.room(checker.last_length);
+        if let Some(machine) = own_header(&machine) {
+            let sound = chip_state(&machine);
+            mark(self.rows.sound, number, sound as u8);
+            self.sounds.insert(sound);
+        }
         self.write_into(calls, picked, &machine, &memory, room)
     }
 

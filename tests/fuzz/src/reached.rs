@@ -3,26 +3,29 @@
 use compare::calls::seen::{CountedFunction, NUMBERS};
 use std::sync::atomic::{AtomicU8, Ordering};
 
-/// The rows of cells: reading and writing of each format with the offsets told, the functions of the log, and the blocks
-/// and the figures that explaining tells.
+/// The rows of cells: reading and writing of each format with the offsets told and the sound read, the functions of the
+/// log, and the blocks and the figures that explaining tells.
 pub const Z80_ROWS: FormatRows = FormatRows {
     read: 0,
     write: 1,
     offset: 11,
+    sound: 15,
 };
 pub const SCS_ROWS: FormatRows = FormatRows {
     read: 9,
     write: 10,
     offset: 12,
+    sound: 16,
 };
 pub const BLOCK_ROW: usize = 13;
 pub const FOUND_ROW: usize = 14;
-const ROWS: usize = 15;
+const ROWS: usize = 17;
 
 pub struct FormatRows {
     pub read: usize,
     pub write: usize,
     pub offset: usize,
+    pub sound: usize,
 }
 
 pub fn row(function: CountedFunction) -> usize {

@@ -1,12 +1,14 @@
 //! replay_corpus [FOLDER..]: runs every file of the folders (tests/fuzz/corpus) as an input of the fuzz target. All of
-//! them together reach every number, each that has an offset at several places and in eight blocks, and each figure that
-//! can be due.
+//! them together reach every number, each that has an offset at several places and in eight blocks, each figure that can
+//! be due, and every kind of sound.
 #![forbid(unsafe_code)]
 
 use compare::calls::explain::FigureCounts;
+use compare::machines::CHIP_STATES;
 use compare::report::{Group, Outcome, Report};
 use fuzz::input::{Input, InputMode, MODES};
 use fuzz::target::Target;
+use std::collections::BTreeSet;
 use std::io::Result;
 use std::process::ExitCode;
 
@@ -94,6 +96,16 @@ fn explained(told: &FigureCounts) -> Outcome {
     Ok(())
 }
 
+/// Machines with every kind of sound were read, but for those that a format has not.
+fn sounds(read: &BTreeSet<usize>, first: usize) -> Outcome {
+    let due: Vec<_> = CHIP_STATES[first..].iter().collect();
+    let read: Vec<_> = read.iter().map(|place| &CHIP_STATES[*place]).collect();
+    match read == due {
+        true => Ok(()),
+        false => Err(format!("{read:?}, should be {due:?}")),
+    }
+}
+
 fn main() -> Result<ExitCode> {
     let mut folders: Vec<String> = std::env::args().skip(1).collect();
     if folders.is_empty() {
@@ -114,7 +126,10 @@ fn main() -> Result<ExitCode> {
         report.fact(&numbers, format.checker.numbers_seen(1));
         report.fact(&offsets, format.checker.offsets_seen(LEAST_CORPUS_OFFSETS));
     }
-    let [z80, _] = &target.formats;
+    let [z80, scs] = &target.formats;
+    report.fact("every kind of sound of .z80 files", sounds(&z80.sounds, 0));
+    // every machine from SCS has the chip
+    report.fact("every kind of sound of SCS files", sounds(&scs.sounds, 1));
     report.fact(
         "explanations of .z80 files",
         explained(&z80.checker.figures),
