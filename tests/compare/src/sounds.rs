@@ -1,7 +1,7 @@
 //! Headers with every value of byte 37, with every mode, sound registers and last OUT, and which of them are ours.
 
 use crate::machines;
-use crate::report::Outcome;
+use crate::report::{hex, Outcome};
 use reference::machine::{header, own_header, Model, HEADER};
 use reference::memory::Rng;
 
@@ -27,7 +27,8 @@ pub fn each_header(rng: &mut Rng, mut run: impl FnMut(&SoundHeader) -> Outcome) 
     for sound_header in headers(rng) {
         let SoundHeader { bytes, is_ours } = &sound_header;
         if own_header(bytes).is_some() != *is_ours {
-            return Err(format!("the reference of {bytes:02X?}"));
+            let is_not = if *is_ours { "refuses" } else { "accepts" };
+            return Err(format!("the reference {is_not} header {}", hex(bytes)));
         }
         ours += usize::from(*is_ours);
         run(&sound_header)?;
@@ -44,15 +45,9 @@ fn headers(rng: &mut Rng) -> Vec<SoundHeader> {
         for mode in modes {
             for value in 0..=255 {
                 for case in 0..2 * SOUND_CASES {
-                    let machine = machines::machine(rng, model);
-                    let mut bytes = header(&machine);
+                    let mut bytes = header(&machines::machine(rng, model));
                     (bytes[34], bytes[37]) = (mode, value);
-                    put_sound(rng, &mut bytes, case % SOUND_CASES);
-                    bytes[35] = if case < SOUND_CASES {
-                        0
-                    } else {
-                        rng.byte().max(1)
-                    };
+                    put_ports(rng, &mut bytes, case);
                     let is_ours = is_ours(model, &bytes);
                     all.push(SoundHeader { bytes, is_ours });
                 }
@@ -78,9 +73,14 @@ fn other_modes(rng: &mut Rng) -> Vec<SoundHeader> {
     all
 }
 
-fn put_sound(rng: &mut Rng, bytes: &mut [u8], case: usize) {
+/// Each case of sound without a last OUT to 7FFD, then each with one.
+fn put_ports(rng: &mut Rng, bytes: &mut [u8], case: usize) {
+    bytes[35] = match case < SOUND_CASES {
+        true => 0,
+        false => rng.byte().max(1),
+    };
     let mut sound = [0; 17];
-    match case {
+    match case % SOUND_CASES {
         0 => {}
         1 => sound[0] = rng.byte().max(1),
         2 => sound[1 + rng.below(16)] = rng.byte().max(1),
