@@ -62,7 +62,7 @@ fn headers(rng: &mut Rng) -> Vec<SoundHeader> {
 fn other_modes(rng: &mut Rng) -> Vec<SoundHeader> {
     let mut all = Vec::new();
     for mode in [2].into_iter().chain(7..=255) {
-        for value in [0, 4, 7, rng.byte()] {
+        for value in 0..=255 {
             let model = rng.pick(&[Model::K48, Model::K128]);
             let mut bytes = header(&machines::machine(rng, model));
             (bytes[34], bytes[37]) = (mode, value);
