@@ -14,8 +14,9 @@ void kept_in(enum file_kind kind, const struct snapshot *opened, struct snapshot
     snap_scs_read(file, (size_t)length, kept->area, sizeof kept->area, kept->header, sizeof kept->header, &offset);
 }
 
-/* The parts of a header that may be lost, each with its last byte and the bits that are looked at, in info's words. */
 #define WHOLE 0xFF
+
+/* The parts of a header that may be lost, each with its last byte and the bits that are looked at, in info's words. */
 static const struct header_part {
     unsigned first, last, bits;
     const char *name;
@@ -55,5 +56,5 @@ void tell_changes(const char *file, const struct snapshot *opened, const struct 
 {
     tell_lost(file, opened, kept);
     if (machine_of(kept->header).has_sound_chip && !machine_of(opened->header).has_sound_chip)
-        warn(file, "an SCS file of a 48K always has the sound chip; gained: sound chip");
+        warn(file, "an SCS file gives every 48K the sound chip; this one had none");
 }

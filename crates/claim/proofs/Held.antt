@@ -19,7 +19,7 @@ use Rattle.numbers.specs.declared.Answer.{Answer}
 use Rattle.numbers.specs.declared.Answer.the-variants.{Accepted}
 use Rattle.spectrum.specs.Machine.{changed, withPair, withOut}
 use Rattle.spectrum.specs.State.{State}
-use Rattle.spectrum.specs.Valid.{validOf, quietOf}
+use Rattle.spectrum.specs.Valid.{validOf, portsFit}
 use Rattle.numbers.proofs.Numbers.{refused-not, refuse-not}
 use Rattle.log_steps.specs.declared.Step.{Step}
 use Rattle.log_steps.specs.Steps.{putStep, stepAt}
@@ -76,14 +76,14 @@ out-back : (m : Machine) (v : ℕ) → withOut (withOut m v) (m .out7ffd) ≡ m
 unfolding withOut
 out-back m v = refl
 
-pair-quiet : (m : Machine) (p v : ℕ) (k : Model) → quietOf k (withPair m p v) ≡ quietOf k m
+pair-ports : (m : Machine) (p v : ℕ) (k : Model) → portsFit k (withPair m p v) ≡ portsFit k m
 unfolding withPair
-pair-quiet m p v K48 = refl
-pair-quiet m p v K128 = refl
+pair-ports m p v K48 = refl
+pair-ports m p v K128 = refl
 
 pair-valid : (m : Machine) (p v : ℕ) → validOf (withPair m p v) ≡ validOf m
 unfolding validOf withPair
-pair-valid m p v = rw (pair-quiet m p v (m .model))
+pair-valid m p v = rw (pair-ports m p v (m .model))
 
 -- validity looks at the last OUT on a 48K machine only
 out-valid : (m : Machine) (v : ℕ) → m .model ≡ K128 → validOf (withOut m v) ≡ validOf m

@@ -19,7 +19,7 @@ use Rattle.clock.specs.Clock.{positionOf, lowOf, highOf}
 use Rattle.spectrum.specs.Valid.{Typed, Valid}
 use Rattle.clock.proofs.Counters.{position-back}
 use Rattle.header.specs.declared.Version.the-variants.{V3}
-use Rattle.header_read.specs.Reading.{pairsBefore, pairsOf, videoOf, switchesOf, carried, chipOf, withChip, soundOf, machineOf}
+use Rattle.header_read.specs.Reading.{pairsBefore, pairsOf, videoOf, switchesOf, carried, chipOf, chipByte, soundOf, machineOf}
 use Rattle.header_pieces.specs.Pieces.{videoBits, chipBit, byte37, counterBytes}
 use Rattle.header_write.specs.Writing.{headerOf}
 
@@ -93,7 +93,7 @@ pub carried-back : (k : Model) (b : ℕ) → (k ≡ K48 → b ≡ 0) → carried
 carried-back K48 b h = sym (h refl)
 carried-back K128 b h = refl
 
-outfffd-back : (c : Bool) (b : ℕ) → (c ≡ false → b ≡ 0) → withChip c b ≡ b
+outfffd-back : (c : Bool) (b : ℕ) → (c ≡ false → b ≡ 0) → chipByte c b ≡ b
 outfffd-back true b h = refl
 outfffd-back false b h = sym (h refl)
 
@@ -114,12 +114,15 @@ module _ (a b chip : Bool) where
   third-bit : (n : ℕ) → byte37 a b n / 4 % 2 ≡ n % 2
   third-bit n = omega arith
 
+  marked : bitAt (byte37 a b (bitOf chip)) 4 ≡ chip
+  marked = ap (λ (x : ℕ). eqb x 1) (third-bit (bitOf chip)) ∙ is-one chip
+
   chip-back : (k : Model) → (k ≡ K128 → chip ≡ true) → chipOf k (byte37 a b (chipBit k chip)) ≡ chip
-  chip-back K48 h = ap (λ (x : ℕ). eqb x 1) (third-bit (bitOf chip)) ∙ is-one chip
+  chip-back K48 h = marked
   chip-back K128 h = sym (h refl)
 
   mark-back : (k : Model) → bitOf (bitAt (byte37 a b (chipBit k chip)) 4) ≡ chipBit k chip
-  mark-back K48 = ap bitOf (ap (λ (x : ℕ). eqb x 1) (third-bit (bitOf chip)) ∙ is-one chip)
+  mark-back K48 = ap bitOf marked
   mark-back K128 = ap (λ (x : ℕ). bitOf (eqb x 1)) (third-bit 0)
 
 pub header-mark : (m : Machine) → bitOf (bitAt (at (headerOf m) 37) 4) ≡ chipBit (m .model) (m .chip)
@@ -212,7 +215,7 @@ module _ (m : Machine) (rest : List ℕ) (t : Typed m) where
           remulation = first-bit a b c _ refl k;
           ldiremulation = second-bit a b c _ refl k;
           chip = chip k;
-          outfffd = (ap (λ (x : Bool). withChip x (m .outfffd)) chip ∙ outfffd-back (m .chip) (m .outfffd) (v .outfffd)) k;
+          outfffd = (ap (λ (x : Bool). chipByte x (m .outfffd)) chip ∙ outfffd-back (m .chip) (m .outfffd) (v .outfffd)) k;
           sound = (ap (λ (x : Bool). soundOf x whole) chip ∙ silent-back (m .chip) (m .sound) whole (v .silent) sound-back) k;
           position = ((λ j. positionOf (m .model) (low-back j) (high-back j)) ∙ position-back (m .model) (m .position) (v .position)) k;
           side59 = side59-back k;

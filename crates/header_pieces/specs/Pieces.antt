@@ -73,7 +73,7 @@ chipBit K128 chip = 0
 
 -- byte 37: R emulation, LDIR emulation, the sound chip, "the rest written 0"
 abbrev pub byte37 : Bool → Bool → ℕ → ℕ
-byte37 remulation ldiremulation chip = bitOf remulation % 2 + 2 * (bitOf ldiremulation % 2) + 4 * (chip % 2)
+byte37 remulation ldiremulation bit2 = bitOf remulation % 2 + 2 * (bitOf ldiremulation % 2) + 4 * (bit2 % 2)
 
 -- bytes 34 to 38
 abbrev pub portBytes : Machine → List ℕ

@@ -16,7 +16,7 @@ use Rattle.header.specs.declared.Version.the-variants.{V1, V2, V3}
 use Rattle.header.specs.Heads.{headerLength}
 use Rattle.header.specs.Inner.{Readable}
 use Rattle.header.proofs.HeadSteps.{long-30, long-v2, long-v3}
-use Rattle.header_read.specs.Reading.{pcAt, pairsBefore, pairsOf, videoOf, carried, afterV1, chipOf, withChip, soundOf, framePosition, side59Of, sideOf}
+use Rattle.header_read.specs.Reading.{pcAt, pairsBefore, pairsOf, videoOf, carried, afterV1, chipOf, chipByte, soundOf, framePosition, side59Of, sideOf}
 
 -- places inside a header
 module _ (v : Version) (n : ℕ) (h : headerLength v ≤ n) where
@@ -57,9 +57,10 @@ pub chip-long : (v : Version) (m : Model) (s : List ℕ) (b : ℕ) (c : Bool) �
 chip-long v K48 s b c g p q e = chip-later v (at s 37) (length s) (g .long) (ap (λ (x : ℕ). bitAt x 4) (sym p) ∙ sym q ∙ e)
 chip-long v K128 s b c g p q e = g .later refl
 
-module _ (c : Bool) (n : ℕ) (e : c ≡ true) (f : c ≡ true → 55 ≤ n) where
-  pub chip-inside : (place : ℕ) → place < 55 → place < n
-  chip-inside place h = let k : 55 ≤ n = f e in omega arith
+-- what a model or the chip asks for
+module _ {A : Type 0} (x y : A) (n : ℕ) (e : x ≡ y) (f : x ≡ y → 55 ≤ n) where
+  pub asked-inside : (place : ℕ) → place < 55 → place < n
+  asked-inside place h = let k : 55 ≤ n = f e in omega arith
 
   pub inside-sound : 39 + 16 ≤ n
   inside-sound = let k : 55 ≤ n = f e in omega arith
@@ -69,17 +70,14 @@ pc-inside V1 n p h e = omega arith
 pc-inside V2 n p h e = omega arith
 pc-inside V3 n p h e = omega arith
 
-pub carry-inside : (m : Model) (n place : ℕ) → m ≡ K128 → (m ≡ K128 → 55 ≤ n) → place < 55 → place < n
-carry-inside m n place e f h = let k : 55 ≤ n = f e in omega arith
-
--- parts by version and model
+-- parts by version, model and chip
 pub carry-128 : (m : Model) (b : ℕ) → m ≡ K128 → b ≡ carried m b
 carry-128 m b e = rw e
 
 pub chip-48 : (m : Model) (b : ℕ) → m ≡ K48 → bitAt b 4 ≡ chipOf m b
 chip-48 m b e = rw e
 
-pub byte-chip : (c : Bool) (b : ℕ) → c ≡ true → b ≡ withChip c b
+pub byte-chip : (c : Bool) (b : ℕ) → c ≡ true → b ≡ chipByte c b
 byte-chip c b e = rw e
 
 pub sound-chip : (c : Bool) (s r : List ℕ) → c ≡ true → r ≡ take 16 (drop 39 s) → r ≡ soundOf c s

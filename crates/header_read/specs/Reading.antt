@@ -66,15 +66,16 @@ afterV1 V1 b = 0
 afterV1 V2 b = b
 afterV1 V3 b = b
 
--- whether the machine has the sound chip, by byte 37: of a 48K machine bit 2 says so. "A 128K machine always has the chip."
+-- whether the machine has the sound chip, by byte 37: of a 48K machine bit 2 says so, which in v1 counts as 0. "A 128K machine always has
+-- the chip."
 abbrev pub chipOf : Model → ℕ → Bool
 chipOf K48 b = bitAt b 4
 chipOf K128 b = true
 
 -- with the chip "bytes 38 to 54" are kept; "without, they read as 0"
-abbrev pub withChip : Bool → ℕ → ℕ
-withChip true b = b
-withChip false b = 0
+abbrev pub chipByte : Bool → ℕ → ℕ
+chipByte true b = b
+chipByte false b = 0
 
 abbrev pub soundOf : Bool → List ℕ → List ℕ
 soundOf true s = take 16 (drop 39 s)
@@ -103,7 +104,7 @@ sideOf V3 s = take 25 (drop 61 s)
 unfoldable pub machineOf : Version → Model → Attachment → List ℕ → Machine
 machineOf version model attachment s =
     let b = afterV1 version (at s 37) in
-    let c = chipOf model b in
+    let hasChip = chipOf model b in
     record {
       pairs = pairsOf version s;
       i = at s 10;
@@ -115,9 +116,9 @@ machineOf version model attachment s =
       byte36 = afterV1 version (at s 36);
       remulation = bitAt b 1;
       ldiremulation = bitAt b 2;
-      chip = c;
-      outfffd = withChip c (at s 38);
-      sound = soundOf c s;
+      chip = hasChip;
+      outfffd = chipByte hasChip (at s 38);
+      sound = soundOf hasChip s;
       position = framePosition version model s;
       side59 = side59Of version s;
       side = sideOf version s;

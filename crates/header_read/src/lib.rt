@@ -13,7 +13,7 @@ ghost use Rattle.slices.specs.Bytes.{at};
 ghost use Rattle.pages.specs.declared.Model.the-variants.{K128};
 ghost use Rattle.header.specs.Heads.{headerLength};
 ghost use Rattle.header.specs.Inner.{Readable};
-ghost use Rattle.header_read.specs.Reading.{pcAt, pairsBefore, pairsOf, videoOf, switchesOf, carried, afterV1, chipOf, withChip, soundOf, framePosition, side59Of, noSide, sideOf, machineOf};
+ghost use Rattle.header_read.specs.Reading.{pcAt, pairsBefore, pairsOf, videoOf, switchesOf, carried, afterV1, chipOf, chipByte, soundOf, framePosition, side59Of, noSide, sideOf, machineOf};
 
 fn pc_at(version: Version) -> usize
     ensures { λ r. ⌜ r ≡ pcAt version ⌝ }
@@ -127,7 +127,7 @@ fn read_chip(model: Model, b: u8) -> bool
 // A byte of the later versions that only a machine with the sound chip carries.
 fn chip_byte(s: &[u8], chip: bool, place: usize) -> u8
     requires { ⌜ ((chip ≡ true → 55 ≤ length (now s)) × (place < 55)) ⌝ }
-    ensures { λ r. ⌜ r ≡ withChip chip (at (now (s .entry)) place) ⌝ }
+    ensures { λ r. ⌜ r ≡ chipByte chip (at (now (s .entry)) place) ⌝ }
 {
     if chip { s[place] } else { 0 }
 }

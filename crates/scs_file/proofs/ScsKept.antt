@@ -2,14 +2,13 @@
 use Prim.Native.Nat.{ℕ, zero, suc, _+_, _*_, _%_, _<_}
 use native.Mathlib.Omega.{arith}
 use native.Mathlib.Nat.{mod-mod, mod-eq-of-lt}
-use mathlib.Core.Path.{_≡_, refl, sym}
+use mathlib.Core.Path.{_≡_, sym}
 use mathlib.Core.Bool.{true, false}
 use mathlib.Core.List.{List, [], _∷_}
 use lib.ListN.{length, getD, drop, drop-of-length-le}
 use lib.Seq.{drop-cons, take-all}
 use Rattle.slices.specs.Bytes.{lowByte, highByte, bitOf}
 use Rattle.pages.specs.declared.Model.{Model}
-use Rattle.pages.specs.declared.Model.the-variants.{K48, K128}
 use Rattle.spectrum.specs.declared.Machine.{Machine}
 use Rattle.spectrum.specs.declared.Attachment.the-variants.{Nothing}
 use Rattle.spectrum.specs.Valid.{Typed, Valid, validOf}

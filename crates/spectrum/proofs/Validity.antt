@@ -12,21 +12,21 @@ use Rattle.slices.proofs.Chosen.{both-true}
 use Rattle.spectrum.specs.declared.Machine.{Machine}
 use Rattle.pages.specs.declared.Model.{Model}
 use Rattle.pages.specs.declared.Model.the-variants.{K48, K128}
-use Rattle.spectrum.specs.Valid.{zeros, soundFits, quietOf, validOf, Valid}
+use Rattle.spectrum.specs.Valid.{zeros, soundFits, portsFit, validOf, Valid}
 use Rattle.spectrum.proofs.Zeros.{zeros-are, zeros-of}
 
 pub fits-without : (chip : Bool) (fffd : ℕ) (sound : List ℕ) (z r : Bool) → chip ≡ false → z ≡ zeros sound → r ≡ both (eqb fffd 0) z → r ≡ soundFits chip fffd sound
 fits-without chip fffd sound z r e p q = rw e (q ∙ ap (both (eqb fffd 0)) p)
 
-pub quiet-48 : (m : Machine) (b r : Bool) → m .model ≡ K48 → b ≡ soundFits (m .chip) (m .outfffd) (m .sound) → r ≡ both (eqb (m .out7ffd) 0) b
-    → r ≡ quietOf (m .model) m
-quiet-48 m b r e p q = rw e (q ∙ ap (both (eqb (m .out7ffd) 0)) p)
+pub ports-48 : (m : Machine) (b r : Bool) → m .model ≡ K48 → b ≡ soundFits (m .chip) (m .outfffd) (m .sound) → r ≡ both (eqb (m .out7ffd) 0) b
+    → r ≡ portsFit (m .model) m
+ports-48 m b r e p q = rw e (q ∙ ap (both (eqb (m .out7ffd) 0)) p)
 
-pub quiet-128 : (m : Machine) → m .model ≡ K128 → m .chip ≡ quietOf (m .model) m
-quiet-128 m e = rw e
+pub ports-128 : (m : Machine) → m .model ≡ K128 → m .chip ≡ portsFit (m .model) m
+ports-128 m e = rw e
 
 -- the test says what `Valid` says
-record Quiet (model : Model) (m : Machine) : Type 0 where
+record PortsFit (model : Model) (m : Machine) : Type 0 where
   out7ffd : model ≡ K48 → m .out7ffd ≡ 0
   chip : model ≡ K128 → m .chip ≡ true
   sounds : soundFits (m .chip) (m .outfffd) (m .sound) ≡ true
@@ -34,11 +34,11 @@ record Quiet (model : Model) (m : Machine) : Type 0 where
 not-48 : K128 ≡ K48 → ⊥
 not-48 e = let z : _≡_ {A = ℕ} 0 1 = cc in omega arith
 
-quiet-says : (model : Model) (m : Machine) → quietOf model m ≡ true → Quiet model m
-quiet-says K48 m h =
+ports-say : (model : Model) (m : Machine) → portsFit model m ≡ true → PortsFit model m
+ports-say K48 m h =
     let p = both-true _ _ h in
     record { out7ffd = λ _. eqb-true (m .out7ffd) 0 (p .0); chip = λ e. absurd (not-48 (sym e)); sounds = p .1 }
-quiet-says K128 m h = record { out7ffd = λ e. absurd (not-48 e); chip = λ _. h; sounds = rw h }
+ports-say K128 m h = record { out7ffd = λ e. absurd (not-48 e); chip = λ _. h; sounds = rw h }
 
 -- without the chip nothing of it is there
 none-there : (chip : Bool) (fffd : ℕ) (sound : List ℕ) → length sound ≡ 16 → soundFits chip fffd sound ≡ true → chip ≡ false
@@ -54,7 +54,7 @@ valid-says m l h =
     let b = both-true _ _ (a .1) in
     let c = both-true _ _ (b .1) in
     let d = both-true _ _ (c .1) in
-    let q = quiet-says (m .model) m (d .1) in
+    let q = ports-say (m .model) m (d .1) in
     let z = none-there (m .chip) (m .outfffd) (m .sound) l (q .sounds) in
     record {
       im = ltb-true _ _ (a .0);
@@ -71,13 +71,13 @@ fits-true : (chip : Bool) (fffd : ℕ) (sound : List ℕ) → (chip ≡ false �
 fits-true true fffd sound g h = refl
 fits-true false fffd sound g h = rw (eq-eqb _ _ (g refl)) (ap zeros (h refl) ∙ zeros-of 16)
 
-quiet-true : (model : Model) (m : Machine) → (model ≡ K48 → m .out7ffd ≡ 0) → (model ≡ K128 → m .chip ≡ true) → soundFits (m .chip) (m .outfffd) (m .sound) ≡ true
-    → quietOf model m ≡ true
-quiet-true K48 m f g h = rw (eq-eqb _ _ (f refl)) h
-quiet-true K128 m f g h = g refl
+ports-true : (model : Model) (m : Machine) → (model ≡ K48 → m .out7ffd ≡ 0) → (model ≡ K128 → m .chip ≡ true) → soundFits (m .chip) (m .outfffd) (m .sound) ≡ true
+    → portsFit model m ≡ true
+ports-true K48 m f g h = rw (eq-eqb _ _ (f refl)) h
+ports-true K128 m f g h = g refl
 
 pub valid-true : (m : Machine) → Valid m → validOf m ≡ true
 unfolding validOf
 valid-true m v =
     rw (lt-ltb _ _ (v .im), lt-ltb _ _ (v .border), lt-ltb _ _ (v .joystick), lt-ltb _ _ (v .position))
-    (quiet-true (m .model) m (v .out7ffd) (v .chip) (fits-true (m .chip) (m .outfffd) (m .sound) (v .outfffd) (v .silent)))
+    (ports-true (m .model) m (v .out7ffd) (v .chip) (fits-true (m .chip) (m .outfffd) (m .sound) (v .outfffd) (v .silent)))

@@ -17,22 +17,22 @@ abbrev pub zeros : List ℕ → Bool
 zeros [] = true
 zeros (x ∷ xs) = both (eqb x 0) (zeros xs)
 
--- whether a last OUT to FFFD and sound registers are those of a machine with the chip, or without it
+-- with the chip any last OUT to FFFD and any sound registers, without it only zeros
 abbrev pub soundFits : Bool → ℕ → List ℕ → Bool
 soundFits true outfffd sound = true
 soundFits false outfffd sound = both (eqb outfffd 0) (zeros sound)
 
 -- a 48K machine has no last OUT to 7FFD, and sound only with the chip; a 128K machine has the chip
-abbrev pub quietOf : Model → Machine → Bool
-quietOf K48 m = both (eqb (m .out7ffd) 0) (soundFits (m .chip) (m .outfffd) (m .sound))
-quietOf K128 m = m .chip
+abbrev pub portsFit : Model → Machine → Bool
+portsFit K48 m = both (eqb (m .out7ffd) 0) (soundFits (m .chip) (m .outfffd) (m .sound))
+portsFit K128 m = m .chip
 
 unfoldable pub validOf : Machine → Bool
 validOf m =
     both (ltb (m .switches .im) 3)
     (both (ltb (m .switches .border) 8)
     (both (ltb (m .switches .joystick) 4)
-    (both (ltb (m .position) (clockEnd (m .model))) (quietOf (m .model) m))))
+    (both (ltb (m .position) (clockEnd (m .model))) (portsFit (m .model) m))))
 
 -- what validOf says, part by part
 pub record Valid (m : Machine) : Type 0 where

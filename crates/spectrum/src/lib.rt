@@ -1,11 +1,11 @@
-// A Spectrum as one record by value: all that document 01 carries of it but its memory.
+// A Spectrum as one record by value: all that is carried of it but its memory.
 use pages::Model;
 use pages::Place;
 ghost use mathlib.Core.Path.{_≡_};
 ghost use lib.ListN.{getD};
 ghost use lib.Dec.{ltb};
 ghost use Rattle.spectrum.specs.Machine.{withPair, withOut, blankMachine};
-ghost use Rattle.spectrum.specs.Valid.{Typed, zeros, soundFits, quietOf, validOf};
+ghost use Rattle.spectrum.specs.Valid.{Typed, zeros, soundFits, portsFit, validOf};
 ghost use Rattle.pages.specs.Pages.{placeOf};
 
 pub enum Attachment {
@@ -31,7 +31,7 @@ pub struct Switches {
     pub joystick: u8,
 }
 
-// All that document 01 carries of a machine but its memory. The order is for the compiler: a machine has 88 bytes, which are copied,
+// All that is carried of a machine but its memory. The order is for the compiler: a machine has 88 bytes, which are copied,
 // whole or in part, in pieces that do not overlap.
 pub struct Machine {
     // AF BC DE HL AF' BC' DE' HL' IX IY SP PC
@@ -120,7 +120,7 @@ impl Machine {
         self
     }
 
-    // Whether the machine is valid by document 01.
+    // Whether the machine is valid.
     pub fn valid(self) -> bool
         ensures { λ r. ⌜ r ≡ validOf self ⌝ }
     {
@@ -130,17 +130,17 @@ impl Machine {
         let border = below(switches.border as u32, 8);
         let joystick = below(switches.joystick as u32, 4);
         let position = below(self.position, clock::clock_end(model));
-        let quiet = self.quiet();
+        let ports = self.ports_fit();
         slices::and(
             im,
-            slices::and(border, slices::and(joystick, slices::and(position, quiet))),
+            slices::and(border, slices::and(joystick, slices::and(position, ports))),
         )
     }
 
     // Whether a 48K machine has no last OUT to 7FFD and, without the sound chip, none to FFFD and no sound; whether a 128K machine has
     // the chip.
-    fn quiet(self) -> bool
-        ensures { λ r. ⌜ r ≡ quietOf (self .model) self ⌝ }
+    fn ports_fit(self) -> bool
+        ensures { λ r. ⌜ r ≡ portsFit (self .model) self ⌝ }
     {
         let model = self.model;
         let sound = self.sound;

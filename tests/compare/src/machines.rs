@@ -22,7 +22,7 @@ pub const CHIP_STATES: [(Model, ChipState); 5] = [
 ];
 
 /// The place in this list of what a valid machine has.
-pub fn chip_state(machine: &Machine) -> usize {
+pub fn chip_state_place(machine: &Machine) -> usize {
     let is_silent = machine.sound_select == 0 && machine.sound == [0; 16];
     let state = match (machine.chip, is_silent) {
         (false, _) => ChipState::Missing,

@@ -98,22 +98,3 @@ fn is_ours(model: Model, bytes: &[u8]) -> bool {
         _ => false,
     }
 }
-
-/// Bytes 35 to 54 of the machine that a v2 or v3 header of this model gives.
-pub fn read_part(model: Model, file: &[u8]) -> [u8; 20] {
-    let mut part = [0; 20];
-    part[1] = file[36];
-    match (model, file[37] & 4 != 0) {
-        (Model::K48, chip) => {
-            part[2] = file[37] & 7;
-            if chip {
-                part[3..].copy_from_slice(&file[38..55]);
-            }
-        }
-        (Model::K128, _) => {
-            part.copy_from_slice(&file[35..55]);
-            part[2] &= 3;
-        }
-    }
-    part
-}

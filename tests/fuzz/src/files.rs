@@ -4,7 +4,7 @@ use super::input::Picked;
 use super::reached::{mark, FormatRows, BLOCK_ROW, FOUND_ROW, SCS_ROWS, Z80_ROWS};
 use compare::calls::files::FileChecker;
 use compare::calls::formats::{SCS_FORMAT, Z80_FORMAT};
-use compare::machines::chip_state;
+use compare::machines::chip_state_place;
 use compare::report::{Group, Outcome};
 use reference::machine::{own_header, Machine};
 use reference::memory::{MEMORY, PAGE};
@@ -65,7 +65,7 @@ impl FormatTarget {
         let (machine, memory) = checker.last_read();
         let room = picked.room(checker.last_length);
         if let Some(machine) = own_header(&machine) {
-            let sound = chip_state(&machine);
+            let sound = chip_state_place(&machine);
             mark(self.rows.sound, number, sound as u8);
             self.sounds.insert(sound);
         }

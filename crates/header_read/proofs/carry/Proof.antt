@@ -1,4 +1,4 @@
-use Rattle.header_read.proofs.ReadSteps.{carry-inside, carry-128}
+use Rattle.header_read.proofs.ReadSteps.{asked-inside, carry-128}
 use borrow.Author.Needs.{needs}
 use Rattle.header_read.proofs.carry.Statement.{statement}
 use Rattle.header_read.proofs.carry.Tie as tie
@@ -10,7 +10,7 @@ enum-told-2 : tie.Need-enum-told-2
 enum-told-2 c = search needs
 
 shared-slice-read-result : tie.Need-shared-slice-read-result
-shared-slice-read-result c = search carry-inside
+shared-slice-read-result c = search asked-inside
 
 returns : tie.Need-returns
 returns c = search needs

@@ -1,10 +1,10 @@
-use Rattle.header_read.proofs.ReadSteps.{chip-inside, byte-chip}
+use Rattle.header_read.proofs.ReadSteps.{asked-inside, byte-chip}
 use borrow.Author.Needs.{needs}
 use Rattle.header_read.proofs.chip_byte.Statement.{statement}
 use Rattle.header_read.proofs.chip_byte.Tie as tie
 
 shared-slice-read-result : tie.Need-shared-slice-read-result
-shared-slice-read-result c = search chip-inside
+shared-slice-read-result c = search asked-inside
 
 returns : tie.Need-returns
 returns c = search byte-chip

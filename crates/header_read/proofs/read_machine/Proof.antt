@@ -1,4 +1,4 @@
-use Rattle.header_read.specs.Reading.{machineOf, chipOf, withChip, soundOf}
+use Rattle.header_read.specs.Reading.{machineOf, chipOf, chipByte, soundOf}
 use Rattle.slices.specs.Bytes.{at, bitAt}
 use denote.Ref.{now}
 use mathlib.Core.Path.{ap, _∙_}
@@ -78,7 +78,7 @@ returns c =
       remulation = bitAt (b k) 1;
       ldiremulation = bitAt (b k) 2;
       chip = chip k;
-      outfffd = (c .before .before .before .before .before .chip-byte .ensures ∙ ap (λ (x : Bool). withChip x (at s 38)) chip) k;
+      outfffd = (c .before .before .before .before .before .chip-byte .ensures ∙ ap (λ (x : Bool). chipByte x (at s 38)) chip) k;
       sound = (c .before .before .before .before .read-sound .ensures ∙ ap (λ (x : Bool). soundOf x s) chip) k;
       position = (c .before .before .before .read-position .ensures) k;
       side59 = (c .before .before .read-side59 .ensures) k;

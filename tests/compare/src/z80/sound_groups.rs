@@ -5,7 +5,7 @@ use compare::calls::expect;
 use compare::calls::files::FileChecker;
 use compare::machines::{with_chip, CHIP_STATES};
 use compare::report::{Group, Outcome};
-use compare::sounds::{each_header, read_part};
+use compare::sounds::each_header;
 use reference::machine::{header, Model, Version};
 use reference::memory::{Rng, MEMORY, PAGE};
 use reference::z80::{write, LONGEST_FILE};
@@ -21,7 +21,7 @@ fn model_of(version: Version, mode: u8) -> Option<Model> {
 
 /// Bytes 35 and 38 to 54: all of them other than 0, none, the last OUT to FFFD alone, one register and the last OUT to
 /// 7FFD.
-fn put_ports(rng: &mut Rng, file: &mut [u8], case: usize) {
+fn put_file_ports(rng: &mut Rng, file: &mut [u8], case: usize) {
     file[35] = 0;
     file[38..55].fill(0);
     match case {
@@ -38,6 +38,25 @@ fn put_ports(rng: &mut Rng, file: &mut [u8], case: usize) {
     }
 }
 
+/// Bytes 35 to 54 of the machine that a v2 or v3 header of this model gives.
+fn read_part(model: Model, file: &[u8]) -> [u8; 20] {
+    let mut part = [0; 20];
+    part[1] = file[36];
+    match (model, file[37] & 4 != 0) {
+        (Model::K48, chip) => {
+            part[2] = file[37] & 7;
+            if chip {
+                part[3..].copy_from_slice(&file[38..55]);
+            }
+        }
+        (Model::K128, _) => {
+            part.copy_from_slice(&file[35..55]);
+            part[2] &= 3;
+        }
+    }
+    part
+}
+
 /// Every value of byte 37 with every mode: carried ones give what the rule keeps, and are written and read again; the
 /// others are refused.
 pub fn every_value(group: &mut Group, check: &mut FileChecker, maker: &mut Maker) -> Outcome {
@@ -47,12 +66,12 @@ pub fn every_value(group: &mut Group, check: &mut FileChecker, maker: &mut Maker
             for value in 0..=255 {
                 file[37] = value;
                 let Some(model) = model_of(version, mode) else {
-                    put_ports(&mut maker.rng, &mut file, value.into());
+                    put_file_ports(&mut maker.rng, &mut file, value.into());
                     check.expect_at(group, &file, 4, 0)?;
                     continue;
                 };
                 for case in 0..4 {
-                    put_ports(&mut maker.rng, &mut file, case);
+                    put_file_ports(&mut maker.rng, &mut file, case);
                     expect(check.read(group, &file)?, 0)?;
                     expect_part(check, read_part(model, &file))?;
                 }

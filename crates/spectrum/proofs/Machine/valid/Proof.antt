@@ -27,8 +27,8 @@ clock-end-requires c κs = search needs
 below-requires-4 : tie.Need-below-requires-4
 below-requires-4 c κs = search needs
 
-quiet-requires : tie.Need-quiet-requires
-quiet-requires c κs = search needs
+ports-fit-requires : tie.Need-ports-fit-requires
+ports-fit-requires c κs = search needs
 
 and-requires : tie.Need-and-requires
 and-requires c κs = search needs
@@ -58,7 +58,7 @@ valid-spec =
     below-requires-3
     clock-end-requires
     below-requires-4
-    quiet-requires
+    ports-fit-requires
     and-requires
     and-requires-2
     and-requires-3

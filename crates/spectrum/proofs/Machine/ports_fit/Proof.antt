@@ -1,7 +1,7 @@
-use Rattle.spectrum.proofs.Validity.{quiet-48, quiet-128}
+use Rattle.spectrum.proofs.Validity.{ports-48, ports-128}
 use borrow.Author.Needs.{needs}
-use Rattle.spectrum.proofs.Machine.quiet.Statement.{statement}
-use Rattle.spectrum.proofs.Machine.quiet.Tie as tie
+use Rattle.spectrum.proofs.Machine.ports_fit.Statement.{statement}
+use Rattle.spectrum.proofs.Machine.ports_fit.Tie as tie
 
 enum-told : tie.Need-enum-told
 enum-told c = search needs
@@ -16,11 +16,11 @@ enum-told-2 : tie.Need-enum-told-2
 enum-told-2 c = search needs
 
 returns : tie.Need-returns
-returns c = search quiet-48
+returns c = search ports-48
 
 returns-2 : tie.Need-returns-2
-returns-2 c = search quiet-128
+returns-2 c = search ports-128
 
-pub quiet-spec : {M : Type 1} → statement M
-quiet-spec =
+pub ports-fit-spec : {M : Type 1} → statement M
+ports-fit-spec =
     tie.close (tie.spec enum-told sound-fits-requires and-requires enum-told-2 returns returns-2)
