@@ -114,15 +114,15 @@ module _ (a b chip : Bool) where
   third-bit : (n : ℕ) → byte37 a b n / 4 % 2 ≡ n % 2
   third-bit n = omega arith
 
-  marked : bitAt (byte37 a b (bitOf chip)) 4 ≡ chip
-  marked = ap (λ (x : ℕ). eqb x 1) (third-bit (bitOf chip)) ∙ is-one chip
+  bit2-back : bitAt (byte37 a b (bitOf chip)) 4 ≡ chip
+  bit2-back = ap (λ (x : ℕ). eqb x 1) (third-bit (bitOf chip)) ∙ is-one chip
 
   chip-back : (k : Model) → (k ≡ K128 → chip ≡ true) → chipOf k (byte37 a b (chipBit k chip)) ≡ chip
-  chip-back K48 h = marked
+  chip-back K48 h = bit2-back
   chip-back K128 h = sym (h refl)
 
   mark-back : (k : Model) → bitOf (bitAt (byte37 a b (chipBit k chip)) 4) ≡ chipBit k chip
-  mark-back K48 = ap bitOf marked
+  mark-back K48 = ap bitOf bit2-back
   mark-back K128 = ap (λ (x : ℕ). bitOf (eqb x 1)) (third-bit 0)
 
 pub header-mark : (m : Machine) → bitOf (bitAt (at (headerOf m) 37) 4) ≡ chipBit (m .model) (m .chip)
