@@ -1,9 +1,11 @@
 //! Headers with every value of byte 37, with every mode, sound registers and last OUT, and which of them are ours.
 
+use crate::calls::expect;
+use crate::calls::files::FileChecker;
 use crate::machines;
-use crate::report::{hex, Outcome};
+use crate::report::{hex, Group, Outcome};
 use reference::machine::{header, own_header, Model, HEADER};
-use reference::memory::Rng;
+use reference::memory::{Rng, MEMORY};
 
 /// A header buffer, and whether a machine has it for its header.
 pub struct SoundHeader {
@@ -37,6 +39,23 @@ pub fn each_header(rng: &mut Rng, mut run: impl FnMut(&SoundHeader) -> Outcome) 
         true => Ok(()),
         false => Err(format!("{ours} headers are ours, not {OURS}")),
     }
+}
+
+/// Writes each of the headers: 20, or it is written where there is room.
+pub fn write_each(
+    group: &mut Group,
+    check: &mut FileChecker,
+    rng: &mut Rng,
+    [short, enough]: [usize; 2],
+) -> Outcome {
+    let memory = vec![rng.byte(); MEMORY];
+    each_header(rng, |header| {
+        for (room, good) in [(short, 22), (enough, 0)] {
+            let due = if header.is_ours { good } else { 20 };
+            expect(check.write_into(group, &header.bytes, &memory, room)?, due)?;
+        }
+        Ok(())
+    })
 }
 
 fn headers(rng: &mut Rng) -> Vec<SoundHeader> {

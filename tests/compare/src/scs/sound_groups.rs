@@ -6,7 +6,7 @@ use compare::calls::expect;
 use compare::calls::files::FileChecker;
 use compare::machines::{with_chip, CHIP_STATES};
 use compare::report::{Group, Outcome};
-use compare::sounds::each_header;
+use compare::sounds::write_each;
 use reference::machine::{header, Model};
 use reference::memory::MEMORY;
 use reference::scs::{PORTS_BLOCK, PORTS_SIZE, SCS_FILE_128K};
@@ -70,17 +70,5 @@ pub fn chips(group: &mut Group, check: &mut FileChecker, maker: &mut ScsMaker) -
 
 /// Headers of every value of byte 37: 20, or they are written.
 pub fn headers(group: &mut Group, check: &mut FileChecker, maker: &mut ScsMaker) -> Outcome {
-    let memory = vec![maker.rng.byte(); MEMORY];
-    each_header(&mut maker.rng, |header| {
-        for room in [88, SCS_FILE_128K] {
-            let due = match (header.is_ours, room) {
-                (false, _) => 20,
-                (true, SCS_FILE_128K) => 0,
-                _ => 22,
-            };
-            let answer = check.write_into(group, &header.bytes, &memory, room)?;
-            expect(answer, due)?;
-        }
-        Ok(())
-    })
+    write_each(group, check, &mut maker.rng, [88, SCS_FILE_128K])
 }

@@ -5,7 +5,7 @@ use compare::calls::expect;
 use compare::calls::files::FileChecker;
 use compare::machines::{with_chip, CHIP_STATES};
 use compare::report::{Group, Outcome};
-use compare::sounds::each_header;
+use compare::sounds::write_each;
 use reference::machine::{header, Model, Version};
 use reference::memory::{Rng, MEMORY, PAGE};
 use reference::z80::{write, LONGEST_FILE};
@@ -125,17 +125,5 @@ pub fn chips(group: &mut Group, check: &mut FileChecker, maker: &mut Maker) -> O
 
 /// Headers of every value of byte 37: 20, or they are written.
 pub fn headers(group: &mut Group, check: &mut FileChecker, maker: &mut Maker) -> Outcome {
-    let memory = vec![maker.rng.byte(); MEMORY];
-    each_header(&mut maker.rng, |header| {
-        for room in [86, LONGEST_FILE] {
-            let due = match (header.is_ours, room) {
-                (false, _) => 20,
-                (true, LONGEST_FILE) => 0,
-                _ => 22,
-            };
-            let answer = check.write_into(group, &header.bytes, &memory, room)?;
-            expect(answer, due)?;
-        }
-        Ok(())
-    })
+    write_each(group, check, &mut maker.rng, [86, LONGEST_FILE])
 }
