@@ -86,3 +86,13 @@ pub fn damage_sound(rng: &mut Rng, header: &mut [u8]) {
         _ => header[37] |= SOUND,
     }
 }
+
+/// A good header, and others that are not ours: damaged in a byte that must be 0, in its sound, and of other lengths.
+pub fn good_and_others(rng: &mut Rng, good: &[u8]) -> [Vec<u8>; 6] {
+    let (mut bad, mut other_sound) = (good.to_vec(), good.to_vec());
+    bad[60] = 1;
+    damage_sound(rng, &mut other_sound);
+    let longer = [good, &[0]].concat();
+    let (shorter, empty) = (good[..HEADER - 1].to_vec(), Vec::new());
+    [good.to_vec(), bad, other_sound, shorter, empty, longer]
+}

@@ -4,7 +4,7 @@ use super::field_groups::comes_back;
 use super::maker::{ScsMaker, MODELS};
 use compare::calls::expect;
 use compare::calls::files::FileChecker;
-use compare::machines::{self, damage_sound, with_chip, CHIP_STATES};
+use compare::machines::{self, good_and_others, with_chip, CHIP_STATES};
 use compare::report::{Group, Outcome};
 use reference::machine::{header, own_header, Machine, Model, HEADER};
 use reference::memory::{images, MEMORY};
@@ -115,23 +115,12 @@ pub fn buffers(group: &mut Group, check: &mut FileChecker, maker: &mut ScsMaker)
     for case in 0..20 {
         let model = MODELS[case % 2];
         let good = machines::header(&mut maker.rng, model);
-        let (mut bad, mut other_sound) = (good.clone(), good.clone());
-        bad[60] = 1;
-        damage_sound(&mut maker.rng, &mut other_sound);
-        let longer = [&good[..], &[0]].concat();
-        for bytes in [
-            &good[..],
-            &bad,
-            &other_sound,
-            &good[..85],
-            &good[..0],
-            &longer,
-        ] {
+        for bytes in &good_and_others(&mut maker.rng, &good) {
             for area in [0, 1, MEMORY - 1, MEMORY, MEMORY + 1] {
                 let mut memory = memory(maker);
                 memory.resize(area, 0);
                 for room in [0, 100, SCS_FILE_128K] {
-                    let due = match (bytes == good, area == MEMORY, room) {
+                    let due = match (*bytes == good, area == MEMORY, room) {
                         (false, ..) => 20,
                         (true, false, _) => 21,
                         (true, true, SCS_FILE_128K) => 0,

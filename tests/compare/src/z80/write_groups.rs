@@ -3,7 +3,7 @@
 use super::maker::Maker;
 use compare::calls::expect;
 use compare::calls::files::FileChecker;
-use compare::machines::damage_sound;
+use compare::machines::good_and_others;
 use compare::report::{Group, Outcome};
 use reference::machine::{header, own_header, Machine, Model, Version, HEADER};
 use reference::memory::{images, Rng, MEMORY};
@@ -115,24 +115,13 @@ pub fn buffers(group: &mut Group, check: &mut FileChecker, maker: &mut Maker) ->
     for _ in 0..20 {
         let (machine, memory) = machine(maker);
         let good = header(&machine);
-        let (mut bad, mut other_sound) = (good, good);
-        bad[60] = 1;
-        damage_sound(&mut maker.rng, &mut other_sound);
-        let longer = [&good[..], &[0]].concat();
-        for bytes in [
-            &good[..],
-            &bad,
-            &other_sound,
-            &good[..85],
-            &good[..0],
-            &longer,
-        ] {
+        for bytes in &good_and_others(&mut maker.rng, &good) {
             for area in [0, 1, MEMORY - 1, MEMORY, MEMORY + 1] {
                 let mut memory = memory.clone();
                 memory.resize(area, 0);
                 for room in [0, 100, LONGEST_FILE] {
                     let answer = check.write_into(group, bytes, &memory, room)?;
-                    match (bytes == good, area == MEMORY) {
+                    match (*bytes == good, area == MEMORY) {
                         (false, _) => expect(answer, 20)?,
                         (true, false) => expect(answer, 21)?,
                         _ => {}
