@@ -1,10 +1,12 @@
 // Block numbers of a file and the RAM pages that they stand for.
+#![tactic(auto)]
+
 ghost use Rattle.std.specs.Prelude.{◌≤◌, ◌≡◌};
 ghost use Rattle.block_pages.specs.Numbered.{page_of, all_there, pages_seen, pages_due};
 
 use pages::Model;
 
-#[derive(Drop)]
+#[derive(Clone, Copy)]
 pub enum Page {
     At(usize),
     NoPage,

@@ -1,4 +1,6 @@
 // A block of a v2 or v3 file: its head, and its data unpacked into a page. Above packing, through its promise alone.
+#![tactic(auto)]
+
 ghost use Rattle.std.specs.Prelude.{◌<◌, ◌≡◌, length};
 ghost use Rattle.packed.specs.Unpacking.{answer_of};
 ghost use Rattle.block_read.specs.Block.{size_of, contents};
@@ -10,7 +12,7 @@ use packed::Unpacked;
 use pages::Model;
 
 // A block's head: a refusal, or where its data lie and which page they are for.
-#[derive(Drop)]
+#[derive(Clone, Copy)]
 pub enum BlockHead {
     Bad(Refusal),
     Data {
@@ -68,7 +70,7 @@ pub fn fill_page(src: &[u8], plain: bool, page: &mut [u8]) -> Unpacked
 {
     if plain {
         if src.len() == page.len() {
-            bytes::copy(src, page);
+            page.copy_from_slice(src);
             return Unpacked::Good;
         }
         slices::fill(page, 0);

@@ -1,4 +1,6 @@
 // A page as a block of a file, packed where that is shorter.
+#![tactic(auto)]
+
 ghost use Rattle.std.specs.Prelude.{◌/◌, ◌%◌, ◌≤◌, ◌<◌, ◌≡◌, ◌∷◌, length, drop};
 ghost use Rattle.packed.specs.Packing.{Packs};
 ghost use Rattle.block_write.specs.BlockFor.{block_for};

@@ -1,4 +1,6 @@
 // The blocks of a v2 or v3 file read into the pages of a lent area, or without one, one after the other.
+#![tactic(auto)]
+
 ghost use Rattle.std.specs.Prelude.{◌<◌, ◌≡◌, length, drop};
 ghost use Rattle.slices.specs.Blank.{blank};
 ghost use Rattle.numbers.specs.Faults.{fault_in, length_fault, missing};
@@ -14,14 +16,14 @@ use packed::Unpacked;
 use pages::Model;
 
 // What reading the body of a file comes to.
-#[derive(Drop)]
+#[derive(Clone, Copy)]
 pub enum BodyAnswer {
     Whole,
     Faulty(FileFault),
 }
 
 // Where the next block begins, or a fault.
-#[derive(Drop)]
+#[derive(Clone, Copy)]
 enum BlockStep {
     Failed(FileFault),
     Next { page: usize, at: usize },

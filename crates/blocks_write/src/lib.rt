@@ -1,4 +1,6 @@
 // The blocks of a file, packed one after the other into the output itself. Above block_write, through its promise alone.
+#![tactic(auto)]
+
 ghost use Rattle.std.specs.Prelude.{◌<◌, ◌≡◌, length};
 ghost use Rattle.pages.specs.declared.Model.TheVariants.{K48, K128};
 ghost use Rattle.pages.specs.Pages.{slots};

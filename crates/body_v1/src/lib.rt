@@ -1,4 +1,6 @@
 // The one stream of a v1 file read into the pages of a lent area, or without one. Above packing, through its promise alone.
+#![tactic(auto)]
+
 ghost use Rattle.std.specs.Prelude.{◌+◌, ◌≤◌, ◌≡◌, length, take, drop};
 ghost use Rattle.slices.specs.Put.{put};
 ghost use Rattle.slices.specs.Blank.{blank};
@@ -22,7 +24,7 @@ fn has_marker(s: &[u8]) -> bool
     }
     let n = s.len() - 4;
     let marker = [0u8, 237, 237, 0];
-    check::same(&s[n..], &marker)
+    s[n..] == marker[..]
 }
 
 // A page, from place k of a stream of memory, to its place in the area.

@@ -1,4 +1,6 @@
 // A byte at an address corrected, once a call is sound: refused, or made and written as a step.
+#![tactic(auto)]
+
 ghost use Rattle.std.specs.Prelude.{◌+◌, ◌*◌, ◌≤◌, ◌<◌, ◌≡◌, length};
 ghost use Rattle.session.specs.Session.{session_on, result_of};
 ghost use Rattle.log_steps.specs.Inner.{Ready};

@@ -1,4 +1,6 @@
 // A list of calls as bytes, four to a call: how many there are, and the call at a number.
+#![tactic(auto)]
+
 ghost use Rattle.std.specs.Prelude.{◌+◌, ◌*◌, ◌≤◌, ◌≡◌, length};
 ghost use Rattle.call_list.specs.CallList.{call_at, call_count};
 

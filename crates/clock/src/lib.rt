@@ -1,4 +1,6 @@
 // The frame clock: the position of two counters, and the counters at a position.
+#![tactic(auto)]
+
 ghost use Rattle.std.specs.Prelude.{◌-◌, ◌≡◌};
 ghost use Rattle.clock.specs.Clock.{position_of, low_of, high_of, clock_end};
 

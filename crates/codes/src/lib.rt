@@ -1,4 +1,6 @@
 // Where ED ED stands in packed data: for 64 places at once and for 16, with the flags of crate flags, and for one.
+#![tactic(auto)]
+
 ghost use Rattle.std.specs.Prelude.{◌+◌, ◌≤◌, ◌<◌, ◌≡◌, length, get_or};
 ghost use Rattle.flags.specs.Places.{Flagged, Seen, Ahead};
 ghost use Rattle.packed.specs.Packed.{escape};

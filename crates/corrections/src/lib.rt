@@ -1,4 +1,6 @@
 // A register pair and the last OUT corrected, once a call is sound: refused, or made and written as a step; the step of every correction.
+#![tactic(auto)]
+
 ghost use Rattle.std.specs.Prelude.{◌+◌, ◌*◌, ◌≤◌, ◌<◌, ◌≡◌, length};
 ghost use Rattle.numbers.specs.declared.Answer.TheVariants.{Accepted};
 ghost use Rattle.log_steps.specs.Steps.{put_step};

@@ -1,4 +1,6 @@
 // What unpacking into a part of a length would answer, without the part: packed data are counted, and nothing is written.
+#![tactic(auto)]
+
 ghost use Rattle.std.specs.Prelude.{◌<◌, ◌≡◌};
 ghost use Rattle.packed.specs.Packed.{unpacked};
 ghost use Rattle.packed.specs.Unpacking.{answer_of};

@@ -1,4 +1,6 @@
 // Why a .Z80 file is refused, in numbers: what the C program gets.
+#![tactic(auto)]
+
 ghost use Rattle.z80explain.specs.Explain.{explain_of};
 ghost use Rattle.explain_bytes.specs.Explains.{ExplainsBytes};
 

@@ -1,4 +1,6 @@
 // Explaining and reading of one file, as a C program calls them: the number and the offset of both are the same.
+#![tactic(auto)]
+
 ghost use Rattle.std.specs.Prelude.{length};
 ghost use Rattle.explained_reads.specs.ExplainedReads.{ExplainsReading};
 

@@ -1,4 +1,6 @@
 // Reading and writing over bytes: the machine crosses as the 86-byte header that the writer makes for it.
+#![tactic(auto)]
+
 ghost use Rattle.std.specs.Prelude.{length};
 ghost use Rattle.file_bytes.specs.Files.{read_of_bytes, ReadsBytes, write_of_bytes, WritesBytes};
 

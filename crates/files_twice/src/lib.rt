@@ -1,4 +1,6 @@
 // Demand 1 of the functions that a C program calls: each call made twice on buffers that differ only in what is to be overwritten.
+#![tactic(auto)]
+
 ghost use Rattle.std.specs.Prelude.{length};
 ghost use Rattle.file_bytes.specs.Files.{read_of_bytes, write_of_bytes};
 ghost use Rattle.files_twice.specs.FilesTwice.{ReadsTwo, WritesTwo};

@@ -1,4 +1,6 @@
 // The five calls of the correction log by their kind, once a call is sound: each is a correction, an undo or a redo.
+#![tactic(auto)]
+
 ghost use Rattle.std.specs.Prelude.{◌≡◌};
 ghost use Rattle.session.specs.Session.{session_on, result_of};
 ghost use Rattle.log_steps.specs.Inner.{Ready};
@@ -7,7 +9,7 @@ ghost use Rattle.five_calls.specs.FiveCalls.{called};
 use session::{Counts, Done};
 use spectrum::Machine;
 
-#[derive(Drop)]
+#[derive(Clone, Copy)]
 pub enum Call {
     Byte(u16, u8),
     Pair(u8, u16),

@@ -1,4 +1,6 @@
 // Sixteen flags as a number, and the first one that is set. It knows no format.
+#![tactic(auto)]
+
 ghost use Rattle.std.specs.Prelude.{◌≤◌, ◌<◌, ◌/◌, ◌^◌, ◌≡◌, false, ◌∷◌, []};
 ghost use Rattle.std.specs.Int.Count.{count_trailing_zeros};
 ghost use Rattle.flags.specs.Weight.{weight};

@@ -1,4 +1,6 @@
 // What the header of a .Z80 file says before any machine is read: v1, v2 or v3, model and attachment, or why it is refused.
+#![tactic(auto)]
+
 ghost use Rattle.std.specs.Prelude.{◌+◌, ◌<◌, ◌≤◌, ◌≡◌, length};
 ghost use Rattle.slices.specs.Bytes.{word_at};
 ghost use Rattle.numbers.specs.Faults.{with_figures};
@@ -9,27 +11,27 @@ use numbers::{FileFault, Refusal};
 use pages::Model;
 use spectrum::Attachment;
 
-#[derive(Drop)]
+#[derive(Clone, Copy)]
 pub enum Version {
     V1,
     V2,
     V3,
 }
 
-#[derive(Drop)]
+#[derive(Clone, Copy)]
 pub enum Known {
     Is(Version),
     Unknown,
 }
 
-#[derive(Drop)]
+#[derive(Clone, Copy)]
 pub enum Mode {
     Carried(Model, Attachment),
     NotCarried,
 }
 
 // A file's header: a refusal, or what decides how the rest is read.
-#[derive(Drop)]
+#[derive(Clone, Copy)]
 pub enum Head {
     Refused(FileFault),
     Header {

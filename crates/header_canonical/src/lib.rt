@@ -1,4 +1,6 @@
 // Which 86 bytes the writer makes, and of which machine.
+#![tactic(auto)]
+
 ghost use Rattle.std.specs.Prelude.{◌≡◌, length};
 ghost use Rattle.slices.specs.Same.{same};
 ghost use Rattle.header_read.specs.Reading.{machine_of};
@@ -11,7 +13,7 @@ use spectrum::{Attachment, Machine};
 
 // A machine from 86 bytes; where they are none that the writer makes, the blank machine. The machine stands first, so that a copy of
 // the whole moves it in the same pieces as a copy of the machine.
-#[derive(Drop)]
+#[derive(Clone, Copy)]
 pub struct DecodedHeader {
     pub machine: Machine,
     pub canonical: bool,

@@ -1,4 +1,6 @@
 // The pieces of the 86 header bytes of a machine.
+#![tactic(auto)]
+
 ghost use Rattle.std.specs.Prelude.{◌≡◌};
 ghost use Rattle.slices.specs.Bytes.{bit_of};
 ghost use Rattle.header_pieces.specs.Pieces.{first_registers, other_registers, video_bits, switch_bytes, mode_byte, chip_bit, port_bytes, counter_bytes};

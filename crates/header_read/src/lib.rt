@@ -1,4 +1,6 @@
 // The machine that a header gives, part by part.
+#![tactic(auto)]
+
 ghost use Rattle.std.specs.Prelude.{◌+◌, ◌<◌, ◌≤◌, ◌≡◌, true, length, take, drop};
 ghost use Rattle.slices.specs.Bytes.{at};
 ghost use Rattle.pages.specs.declared.Model.TheVariants.{K128};
@@ -105,7 +107,7 @@ fn part25(s: &[u8], from: usize) -> [u8; 25]
     ensures { result ≡ take 25 (drop from s.now) }
 {
     let mut t = [0u8; 25];
-    bytes::copy(&s[from..from + 25], &mut t);
+    t.copy_from_slice(&s[from..from + 25]);
     t
 }
 

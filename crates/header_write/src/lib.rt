@@ -1,4 +1,6 @@
 // The 86 header bytes of a machine, put down piece by piece.
+#![tactic(auto)]
+
 ghost use Rattle.std.specs.Prelude.{◌+◌, ◌≤◌, ◌≡◌, ◌++◌, length, get_or, drop};
 ghost use Rattle.slices.specs.Put.{put};
 ghost use Rattle.header_pieces.specs.Pieces.{register_bytes, switch_bytes, port_bytes, counter_bytes};

@@ -1,5 +1,7 @@
 // The correction log's calls: a machine and the log's two numbers go in by value and come back; memory and log are lent. A file opened for
 // correction is read and gets a log.
+#![tactic(auto)]
+
 ghost use Rattle.std.specs.Prelude.{◌≡◌, length, replicate};
 ghost use Rattle.session.specs.Session.{session_on, result_of};
 ghost use Rattle.journal.specs.Journal.{soundness, journal_call, start_counts, open_of, scs_open_of};

@@ -1,5 +1,7 @@
 // The calls of the correction log over bytes: the machine crosses as its header. A call takes the header apart, is made by value and puts
 // it back.
+#![tactic(auto)]
+
 ghost use Rattle.std.specs.Prelude.{◌≡◌, length};
 ghost use Rattle.journal_bytes.specs.Calls.{buffers_in, buffers_out, snap_call, CallLeaves, LogStarts};
 ghost use Rattle.journal_bytes.specs.Inner.{PutBack};

@@ -1,9 +1,11 @@
 // The steps of the correction log, eleven bytes each: how many there is room for, read, written.
+#![tactic(auto)]
+
 ghost use Rattle.std.specs.Prelude.{◌+◌, ◌*◌, ◌≤◌, ◌≡◌, length};
 ghost use Rattle.log_steps.specs.Steps.{capacity, put_step, step_at};
 
 // A step of the log: eleven bytes.
-#[derive(Drop)]
+#[derive(Clone, Copy)]
 pub struct Step {
     pub tag: u8,
     pub size: u16,

@@ -1,4 +1,6 @@
 // Looking at a machine over bytes: the machine crosses as its header. What a refused call is asked for is 0.
+#![tactic(auto)]
+
 ghost use Rattle.std.specs.Prelude.{◌≡◌};
 ghost use Rattle.machine_bytes.specs.Looks.{model_number, attachment_number, model_of, TellsModel, pair_of, TellsPair, address_of, TellsPlace};
 

@@ -1,18 +1,14 @@
 -- The length of the packed form.
 use Prim.Native.Nat.{ℕ, ◌+◌, ◌*◌, ◌/◌, ◌≤◌, ◌<◌}
 use native.Mathlib.Omega.{arith}
-use mathlib.Core.Path.{◌≡◌, ap, ◌∙◌}
-use mathlib.Core.List.{List, ◌++◌}
-use lib.Seq.{length-take-le}
-use lib.ListN.{length, drop, length-append, drop_of_length-le, take, length-drop}
-use Rattle.packed.specs.Packed.{bytes, packed}
-use Rattle.stretches.specs.declared.Stop.{Stop}
-use Rattle.packing.proofs.PackLoop.{Stretched, stretch_plain}
+use mathlib.Core.Path.{◌≡◌, refl, ap, ◌∙◌}
+use mathlib.Core.List.{List}
+use lib.ListN.{length, get_or, drop, length-append, length-replicate, drop_of_length-le}
+use Rattle.packed.specs.Packed.{packed}
 use Rattle.packed.specs.Packed.CodeLaws.{packed_nil}
 use Rattle.packed.specs.Packed.Promise.{packed_short}
-use Rattle.packed.specs.declared.MadeStep.{MadeStep}
-use Rattle.pack_step.specs.Stepping.{pack_step_at, MakesStep}
-use Rattle.pack_step.proofs.StepLaws.{step_inside, packed_at}
+use Rattle.runs.specs.Inner.{RunLeft}
+use Rattle.runs.proofs.RunCodes.{Coded, next_run_ed, next_run, next_short, next_single, next_last}
 
 -- the length: i bytes of s pack to o bytes
 pub record Measured (s : List ℕ) (i o : ℕ) : Type 0 where
@@ -30,18 +26,26 @@ measured_all s i o g h =
     let z : length (packed (drop i s)) ≡ 0 = ap (λ (l : List ℕ). length (packed l)) (drop_of_length-le s {i = i} h) ∙ ap length packed_nil in
     omega (arith, g.same)
 
-pub measured_stretch : (s : List ℕ) (i o : ℕ) → Measured s i o → (d₀ : List ℕ) (r : Stop) (d : List ℕ) → Stretched s i d₀ 0 r d → Measured s (i + r.at) (o + r.at)
-measured_stretch s i o g d₀ r d t =
-    let v = stretch_plain s i d₀ 0 r d t in
-    let e : packed (drop i s) ≡ take r.at (drop i s) ++ packed (drop (i + r.at) s) = (let z : bytes (packed (drop i s)) ≡ bytes (take r.at (drop i s) ++ packed (drop (i + r.at) s)) = v.step in cc) in
-    let l : length (take r.at (drop i s)) ≡ r.at = length-take-le r.at (drop i s) (simp length-drop (omega (arith, v.inside))) in
-    let n = ap length e ∙ length-append (take r.at (drop i s)) (packed (drop (i + r.at) s)) in
-    record { reach = v.inside; same = omega (arith, g.same) }
+module _ (s : List ℕ) (i o : ℕ) (g : Measured s i o) where
+  measured : (ws : List ℕ) (j k : ℕ) → Coded s i ws j → length ws ≡ k → Measured s j (o + k)
+  measured ws j k n e =
+      record {
+        reach = n.inside;
+        same = let l : length (packed (drop i s)) ≡ length ws + length (packed (drop j s)) = ap length n.step ∙ length-append ws (packed (drop j s)) in omega (arith, g.same);
+      }
 
-pub measured_step : (s : List ℕ) (i o : ℕ) → Measured s i o → (d₀ : List ℕ) (r : MadeStep) (d : List ℕ) → MakesStep (pack_step_at s i) d₀ 0 r d → i < length s → Measured s (i + r.taken) (o + r.size)
-measured_step s i o g d₀ r d m h =
-    rw m.answer
-    (record {
-      reach = (step_inside s i h).1;
-      same = let e = ap length (packed_at s i h) ∙ length-append (pack_step_at s i).written (packed (drop (i + (pack_step_at s i).taken) s)) in omega (arith, g.same);
-    })
+  module _ (h : i < length s) (r : ℕ) (l : RunLeft s i r) where
+    pub measured_run_ed : get_or s i 0 ≡ 237 → 2 ≤ r → Measured s (i + r) (o + 4)
+    measured_run_ed e k = measured _ (i + r) 4 (next_run_ed s i h r l e k) refl
+
+    pub measured_single : get_or s i 0 ≡ 237 → r < 2 → i + 1 < length s → Measured s (i + 2) (o + 2)
+    measured_single e k m = measured _ (i + 2) 2 (next_single s i h r l e k m) refl
+
+    pub measured_last : get_or s i 0 ≡ 237 → r < 2 → length s ≤ i + 1 → Measured s (i + 1) (o + 1)
+    measured_last e k m = measured _ (i + 1) 1 (next_last s i h r l e k m) refl
+
+    pub measured_run : (get_or s i 0 ≡ 237 → ⊥) → 5 ≤ r → Measured s (i + r) (o + 4)
+    measured_run e k = measured _ (i + r) 4 (next_run s i h r l e k) refl
+
+    pub measured_short : (get_or s i 0 ≡ 237 → ⊥) → r < 5 → Measured s (i + r) (o + r)
+    measured_short e k = measured _ (i + r) r (next_short s i h r l e k) (length-replicate r (get_or s i 0))

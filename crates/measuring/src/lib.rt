@@ -1,29 +1,36 @@
 // How long the packed form is.
+#![tactic(auto)]
+
 ghost use Rattle.std.specs.Prelude.{◌≡◌, length};
 ghost use Rattle.packed.specs.Packed.{packed};
 
-use pack_step::pack_step;
-use packing::plain_stretch;
-use runs::run_from;
+use runs::run_at;
 
-// The length of src packed: the loop of `pack`, where what is written is written over.
+// The length of src packed.
 pub fn packed_len(src: &[u8]) -> usize
     ensures { result ≡ length (packed src.now) }
 {
     let mut i: usize = 0;
     let mut len: usize = 0;
     while i < src.len() {
-        let mut part = [0u8; 20];
-        let stretch = plain_stretch(src, i, &mut part, 0);
-        let k = stretch.at;
-        i += k;
-        len += k;
-        if k < 16 {
-            let n = run_from(src, i, stretch.unlike);
-            let mut code = [0u8; 4];
-            let made = pack_step(src, i, n, &mut code, 0);
-            i += made.taken;
-            len += made.size;
+        let n = run_at(src, i);
+        if src[i] == 237 {
+            if 2 <= n {
+                len += 4;
+                i += n;
+            } else if src.len() <= i + 1 {
+                len += 1;
+                i += 1;
+            } else {
+                len += 2;
+                i += 2;
+            }
+        } else if 5 <= n {
+            len += 4;
+            i += n;
+        } else {
+            len += n;
+            i += n;
         }
     }
     len

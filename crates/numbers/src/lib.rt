@@ -1,10 +1,12 @@
 // The numbers that calls answer: document 01's one table, and those that document 02 adds to it.
+#![tactic(auto)]
+
 ghost use Rattle.std.specs.Prelude.{◌≡◌};
 ghost use Rattle.numbers.specs.Numbers.{number_of, refusal_number};
 ghost use Rattle.numbers.specs.Faults.{fault_in, with_figures, length_fault, unplaced};
 
 // Why a call is refused, in the order of the table.
-#[derive(Drop)]
+#[derive(Clone, Copy)]
 pub enum Refusal {
     AreaLength,
     FileShort,
@@ -39,7 +41,7 @@ pub enum Refusal {
     ScsMemoryNotFirst,
 }
 
-#[derive(Drop)]
+#[derive(Clone, Copy)]
 pub enum Answer {
     Accepted,
     Refused(Refusal),
@@ -47,7 +49,7 @@ pub enum Answer {
 
 // Why a file is refused; the place in it that is named, an offset in the whole file, 0 where none is; the block from 1 on, 0 where none is;
 // and two figures, what was found and what is due, 0 and 0 where the number has none.
-#[derive(Drop)]
+#[derive(Clone, Copy)]
 pub struct FileFault {
     pub why: Refusal,
     pub place: usize,
@@ -103,7 +105,7 @@ pub fn no_place(why: Refusal) -> FileFault
 }
 
 // The numbers of two calls.
-#[derive(Drop)]
+#[derive(Clone, Copy)]
 pub struct TwoNumbers {
     pub one: u32,
     pub other: u32,

@@ -1,4 +1,6 @@
 // Packing and unpacking under C names, for tests and benchmarks only.
+#![tactic(auto)]
+
 ghost use Rattle.std.specs.Prelude.{◌<◌, ◌≤◌, ◌≡◌, length};
 ghost use Rattle.packed.specs.Packed.{unpacked, packed};
 ghost use Rattle.packed.specs.Unpacking.{answer_of, left_by};
@@ -52,6 +54,14 @@ pub extern "C" fn packing_pack(src: &[u8], dst: &mut [u8], size: &mut u64) -> u3
     let r = packing::pack(src, dst);
     *size = length_in(r);
     pack_code(r)
+}
+
+// The packed length.
+#[unsafe(no_mangle)]
+pub extern "C" fn packing_packed_len(src: &[u8]) -> u64
+    ensures { result ≡ length (packed src.now) }
+{
+    measuring::packed_len(src) as u64
 }
 
 fn unpack_code(r: Unpacked) -> u32

@@ -1,22 +1,24 @@
 // The RAM pages that a machine owns, and where an address leads.
+#![tactic(auto)]
+
 ghost use Rattle.std.specs.Prelude.{◌≡◌};
 ghost use Rattle.pages.specs.Pages.{owned, top_page, place_of};
 
-#[derive(Drop)]
+#[derive(Clone, Copy)]
 pub enum Model {
     K48,
     K128,
 }
 
 // A block number of a file and the RAM page that it stands for.
-#[derive(Drop)]
+#[derive(Clone, Copy)]
 pub struct Slot {
     pub number: u8,
     pub page: usize,
 }
 
 // Where an address of the processor leads.
-#[derive(Drop)]
+#[derive(Clone, Copy)]
 pub enum Place {
     Rom,
     Ram { page: usize, offset: usize },

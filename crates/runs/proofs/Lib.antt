@@ -1,2 +1,3 @@
 pub mod RunLength
 pub mod RunBlocks
+pub mod RunCodes

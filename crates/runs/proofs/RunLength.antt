@@ -11,7 +11,7 @@ use lib.Dec.{eqb}
 use borrow.Author.Tests.{eqb-true, eq-eqb}
 use Rattle.slices.specs.Choose.{choose}
 use Rattle.packed.specs.Packed.{front}
-use Rattle.packed.specs.Packed.CodeLaws.{front_le}
+use Rattle.packed.specs.Packed.Promise.{front_le}
 use Rattle.runs.specs.Inner.{run_at, RunLeft}
 
 -- the bytes of a run

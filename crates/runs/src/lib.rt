@@ -1,4 +1,6 @@
 // How long a run is.
+#![tactic(auto)]
+
 ghost use Rattle.std.specs.Prelude.{◌<◌, not, eqb, length, get_or};
 ghost use Rattle.flags.specs.Places.{Flagged, Ahead};
 ghost use Rattle.runs.specs.Inner.{RunLeft, unlike_at};

@@ -1,4 +1,6 @@
 // The blocks of an SCS file: one pass that notes where the data of the CPU, Ports and Memory blocks stand, and copies nothing.
+#![tactic(auto)]
+
 ghost use Rattle.std.specs.Prelude.{◌+◌, ◌≤◌, ◌≡◌, length};
 ghost use Rattle.scs_blocks.specs.declared.ScsPart.TheVariants.{Stands};
 ghost use Rattle.scs_blocks.specs.ScsBlocks.{size_at, is_there, part_of, noted, three_seen, scs_blocks, data_of, zero_filled};
@@ -6,21 +8,21 @@ ghost use Rattle.scs_blocks.specs.ScsBlocks.{size_at, is_there, part_of, noted, 
 use numbers::{FileFault, Refusal};
 
 // Where the data of a block stand.
-#[derive(Drop)]
+#[derive(Clone, Copy)]
 pub enum ScsPart {
     Absent,
     Stands { from: usize, size: usize },
 }
 
 // What was seen of the three blocks that are read.
-#[derive(Drop)]
+#[derive(Clone, Copy)]
 pub struct ScsSeen {
     pub cpu: ScsPart,
     pub ports: ScsPart,
     pub memory: ScsPart,
 }
 
-#[derive(Drop)]
+#[derive(Clone, Copy)]
 pub enum ScsFound {
     Bad(FileFault),
     Blocks(ScsSeen),
@@ -153,6 +155,6 @@ pub fn fill_from(src: &[u8], dst: &mut [u8])
     ensures { dst.new ≡ zero_filled (length dst.old) src.now }
 {
     let n = slices::least(src.len(), dst.len());
-    bytes::copy(&src[0..n], dst);
+    dst[..n].copy_from_slice(&src[..n]);
     slices::clear_from(dst, n);
 }

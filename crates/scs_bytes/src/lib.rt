@@ -1,4 +1,6 @@
 // Reading and writing SCS files over bytes.
+#![tactic(auto)]
+
 ghost use Rattle.std.specs.Prelude.{length};
 ghost use Rattle.file_bytes.specs.Files.{ReadsBytes, WritesBytes};
 ghost use Rattle.scs_bytes.specs.ScsBytes.{scs_read_of_bytes, scs_write_of_bytes};

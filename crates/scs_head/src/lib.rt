@@ -1,4 +1,6 @@
 // The first bytes of an SCS file: whose they are, which Spectrum is inside, and whether Memory comes first.
+#![tactic(auto)]
+
 ghost use Rattle.std.specs.Prelude.{◌≤◌, ◌≡◌, length, take};
 ghost use Rattle.slices.specs.Same.{same};
 ghost use Rattle.scs_blocks.specs.ScsIdentity.{sam_snap};
@@ -8,7 +10,7 @@ use numbers::Refusal;
 use pages::Model;
 
 // What the first 15 bytes and the number of the first block say.
-#[derive(Drop)]
+#[derive(Clone, Copy)]
 pub enum ScsHead {
     Bad(Refusal),
     Spectrum(Model),
@@ -40,7 +42,7 @@ fn has_name(file: &[u8]) -> bool
     ensures { result ≡ same (take 8 file.now) sam_snap }
 {
     let name = [83u8, 97, 109, 83, 110, 97, 112, 33];
-    check::same(&file[0..8], &name)
+    file[..8] == name[..]
 }
 
 fn memory_first(file: &[u8], model: Model) -> ScsHead

@@ -1,4 +1,6 @@
 // The machine that an SCS file gives, from its CPU and Ports blocks.
+#![tactic(auto)]
+
 ghost use Rattle.std.specs.Prelude.{◌≡◌};
 ghost use Rattle.header_read.specs.Reading.{carried};
 ghost use Rattle.scs_machine.specs.ScsMachine.{scs_pairs, scs_switches, scs_machine};

@@ -1,4 +1,6 @@
 // The Memory block of an SCS file, into the pages of a lent area and out of them. Each byte of the area is written once.
+#![tactic(auto)]
+
 ghost use Rattle.std.specs.Prelude.{◌+◌, ◌-◌, ◌≤◌, ◌≡◌, length, drop, replicate};
 ghost use Rattle.slices.specs.Put.{put};
 ghost use Rattle.pages.specs.declared.Model.TheVariants.{K48};

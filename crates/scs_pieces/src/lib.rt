@@ -1,4 +1,6 @@
 // The pieces of the CPU and Ports blocks that are written for a machine.
+#![tactic(auto)]
+
 ghost use Rattle.std.specs.Prelude.{◌≡◌};
 ghost use Rattle.slices.specs.Bytes.{bit_of};
 ghost use Rattle.scs_pieces.specs.ScsPieces.{high_first_pairs, low_first_pairs, cpu_settings, ports_front};

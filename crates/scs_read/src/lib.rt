@@ -1,5 +1,7 @@
 // Reading an SCS file with a Spectrum inside, already unwrapped, into a machine and a lent area of 131,072 bytes. The blocks are looked
 // through before anything is copied.
+#![tactic(auto)]
+
 ghost use Rattle.std.specs.Prelude.{◌≡◌, length};
 ghost use Rattle.z80read.specs.Read.{refused_read, ReadLeaves, Reads};
 ghost use Rattle.scs_blocks.specs.ScsBlocks.{data_of, zero_filled};

@@ -1,4 +1,6 @@
 // Demand 2 of the two functions for SCS files: a file written and read back, and a file read and written.
+#![tactic(auto)]
+
 ghost use Rattle.std.specs.Prelude.{length};
 ghost use Rattle.scs_trips.specs.ScsTrips.{ScsWritesThenReads, ScsReadsThenWrites};
 

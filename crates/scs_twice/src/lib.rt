@@ -1,4 +1,6 @@
 // Demand 1 of the two functions for SCS files: each call made twice on buffers that differ only in what is to be overwritten.
+#![tactic(auto)]
+
 ghost use Rattle.std.specs.Prelude.{length};
 ghost use Rattle.scs_bytes.specs.ScsBytes.{scs_read_of_bytes, scs_write_of_bytes};
 ghost use Rattle.files_twice.specs.FilesTwice.{ReadsTwo, WritesTwo};

@@ -1,4 +1,6 @@
 // Writing the one SCS file of a machine and its memory, in one pass over the output.
+#![tactic(auto)]
+
 ghost use Rattle.std.specs.Prelude.{◌+◌, ◌-◌, ◌≤◌, ◌≡◌, ◌++◌, ◌∷◌, length, replicate};
 ghost use Rattle.slices.specs.Put.{put};
 ghost use Rattle.z80write.specs.Written.{refused_write, Writes};

@@ -1,4 +1,6 @@
 // Demand 3 of the functions that a C program calls: a list of calls, as bytes, each made by the exported function.
+#![tactic(auto)]
+
 ghost use Rattle.std.specs.Prelude.{length};
 ghost use Rattle.journal_bytes.specs.Calls.{buffers_out};
 ghost use Rattle.server.specs.Server.{Serves};

@@ -1,4 +1,6 @@
 // One call of the correction log, by the function that a C program calls.
+#![tactic(auto)]
+
 ghost use Rattle.journal_bytes.specs.Calls.{buffers_in, buffers_out};
 ghost use Rattle.server_calls.specs.Made.{CallMade};
 

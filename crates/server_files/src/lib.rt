@@ -1,4 +1,6 @@
 // Demand 3 of the functions that a C program calls, from a file that was opened.
+#![tactic(auto)]
+
 ghost use Rattle.std.specs.Prelude.{length};
 ghost use Rattle.z80read.specs.Read.{read_of};
 ghost use Rattle.scs_read.specs.ScsReads.{scs_read_of};

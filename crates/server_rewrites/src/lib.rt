@@ -1,4 +1,6 @@
 // Demand 2 of the functions that a C program calls: a file read and written.
+#![tactic(auto)]
+
 ghost use Rattle.std.specs.Prelude.{length};
 ghost use Rattle.server_rewrites.specs.Rewrites.{ReadsThenWrites};
 

@@ -1,9 +1,11 @@
 // Demand 2 of the functions that a C program calls: a file written and read back.
+#![tactic(auto)]
+
 ghost use Rattle.std.specs.Prelude.{length};
 ghost use Rattle.server_trips.specs.Trips.{WritesThenReads};
 
 // The numbers of a write and of a read.
-#[derive(Drop)]
+#[derive(Clone, Copy)]
 pub struct Trip {
     pub written: u32,
     pub read: u32,

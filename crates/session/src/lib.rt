@@ -1,4 +1,6 @@
 // What a call of the correction log is lent and leaves: the log's two numbers, and what a call gives beside memory and log.
+#![tactic(auto)]
+
 ghost use Rattle.std.specs.Prelude.{◌+◌, ◌-◌, ◌<◌, ◌≡◌};
 ghost use Rattle.numbers.specs.declared.Answer.TheVariants.{Accepted, Refused};
 
@@ -6,14 +8,14 @@ use numbers::{Answer, Refusal};
 use spectrum::Machine;
 
 // The log's two numbers: how many corrections stand, and how many stand or wait.
-#[derive(Drop)]
+#[derive(Clone, Copy)]
 pub struct Counts {
     pub standing: usize,
     pub total: usize,
 }
 
 // What a call gives beside memory and log. The machine stands first, for the reason given at `DecodedHeader` of header_canonical.
-#[derive(Drop)]
+#[derive(Clone, Copy)]
 pub struct Done {
     pub machine: Machine,
     pub counts: Counts,

@@ -1,4 +1,6 @@
 // What every layer uses and knows no format: lent bytes filled, cleared and put; words, the lesser, both of two.
+#![tactic(auto)]
+
 ghost use Rattle.std.specs.Prelude.{◌+◌, ◌-◌, ◌*◌, ◌≤◌, ◌<◌, min, ◌≡◌, ◌++◌, length, take, drop, replicate};
 ghost use Rattle.slices.specs.Choose.{both};
 ghost use Rattle.slices.specs.Put.{put};
@@ -29,7 +31,7 @@ pub fn put_at(dst: &mut [u8], at: usize, src: &[u8])
     requires { at + length src.now ≤ length dst.old }
     ensures { dst.new ≡ put dst.old at src.now }
 {
-    bytes::copy(src, &mut dst[at..]);
+    dst[at..at + src.len()].copy_from_slice(src);
 }
 
 // src written over dst from at on, where 16 bytes are.
@@ -46,7 +48,7 @@ pub fn part16(s: &[u8], from: usize) -> [u8; 16]
     ensures { result ≡ take 16 (drop from s.now) }
 {
     let mut t = [0u8; 16];
-    bytes::copy(&s[from..from + 16], &mut t);
+    t.copy_from_slice(&s[from..from + 16]);
     t
 }
 

@@ -1,4 +1,6 @@
 // The functions that a C program calls, with numbers and byte buffers: see include/snapshot.h.
+#![tactic(auto)]
+
 ghost use Rattle.std.specs.Prelude.{◌≡◌, length};
 ghost use Rattle.five_calls.specs.declared.Call.TheVariants.{Byte, Pair, Out, Undo, Redo};
 ghost use Rattle.file_bytes.specs.Files.{read_of_bytes, ReadsBytes, write_of_bytes, WritesBytes};

@@ -1,4 +1,6 @@
 // A Spectrum as one record by value: all that is carried of it but its memory.
+#![tactic(auto)]
+
 ghost use Rattle.std.specs.Prelude.{◌≡◌, get_or, ltb};
 ghost use Rattle.spectrum.specs.Machine.{with_pair, with_out, blank_machine};
 ghost use Rattle.spectrum.specs.Valid.{Typed, zeros, sound_fits, ports_fit, valid_of};
@@ -6,21 +8,21 @@ ghost use Rattle.pages.specs.Pages.{place_of};
 
 use pages::{Model, Place};
 
-#[derive(Drop)]
+#[derive(Clone, Copy)]
 pub enum Attachment {
     Nothing,
     InterfaceI,
     Mgt,
 }
 
-#[derive(Drop)]
+#[derive(Clone, Copy)]
 pub enum Video {
     Normal,
     High,
     Low,
 }
 
-#[derive(Drop)]
+#[derive(Clone, Copy)]
 pub struct Switches {
     pub border: u8,
     pub iff1: bool,
@@ -34,7 +36,7 @@ pub struct Switches {
 
 // All that is carried of a machine but its memory. The order is for the compiler: a machine has 88 bytes, which are copied,
 // whole or in part, in pieces that do not overlap.
-#[derive(Drop)]
+#[derive(Clone, Copy)]
 pub struct Machine {
     // AF BC DE HL AF' BC' DE' HL' IX IY SP PC
     pub pairs: [u16; 12],

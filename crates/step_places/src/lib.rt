@@ -1,4 +1,6 @@
 // Where a step of the log points: whether a correction could have written it, the value that stands there, and another one put there.
+#![tactic(auto)]
+
 ghost use Rattle.std.specs.Prelude.{◌≡◌};
 ghost use Rattle.step_places.specs.Pointed.{present, placed, is128, tag_intact, intact};
 

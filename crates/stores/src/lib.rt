@@ -1,4 +1,6 @@
 // Bytes and runs stored from a place on. It knows no format.
+#![tactic(auto)]
+
 ghost use Rattle.std.specs.Prelude.{◌+◌, ◌≤◌, ◌<◌, ◌≡◌, ◌∷◌, [], length, replicate};
 ghost use Rattle.slices.specs.Put.{put};
 
@@ -19,15 +21,15 @@ pub fn put_two(dst: &mut [u8], o: usize, v: u8, w: u8)
     dst[o + 1] = w;
 }
 
-// Four bytes from o on.
-pub fn put_four(dst: &mut [u8], o: usize, a: u8, b: u8, x: u8, y: u8)
+// Four times v from o on.
+pub fn put_four(dst: &mut [u8], o: usize, v: u8)
     requires { o + 4 ≤ length dst.old }
-    ensures { dst.new ≡ put dst.old o (a ∷ b ∷ x ∷ y ∷ []) }
+    ensures { dst.new ≡ put dst.old o (replicate 4 v) }
 {
-    dst[o] = a;
-    dst[o + 1] = b;
-    dst[o + 2] = x;
-    dst[o + 3] = y;
+    dst[o] = v;
+    dst[o + 1] = v;
+    dst[o + 2] = v;
+    dst[o + 3] = v;
 }
 
 // 32 times v from o on.

@@ -1,10 +1,12 @@
 -- Where a code may begin in 16 bytes, and the bytes before it.
-use Prim.Native.Nat.{ℕ, suc, ◌+◌, ◌-◌, ◌/◌, ◌^◌, ◌≤◌, ◌<◌}
+use Prim.Native.Nat.{ℕ, ◌+◌, ◌-◌, ◌/◌, ◌^◌, ◌≤◌, ◌<◌}
+use native.Mathlib.Nat.{add-zero}
 use native.Mathlib.Omega.{arith}
 use mathlib.Core.Path.{◌≡◌, refl, sym, ap, ◌∙◌}
 use mathlib.Core.Bool.{Bool, false, not, ◌&&◌}
-use mathlib.Core.List.{List}
+use mathlib.Core.List.{List, ◌∷◌}
 use lib.ListN.{length, get_or, take, drop}
+use lib.Seq.{get_or-drop}
 use lib.Dec.{eqb}
 use lib.Count.{count_trailing_zeros}
 use borrow.Author.Tests.{eqb-false, eq-eqb}
@@ -13,28 +15,35 @@ use Rattle.flags.specs.Weight.{weight}
 use Rattle.flags.specs.Places.{Flagged, Seen, Ahead}
 use Rattle.flags.proofs.Weights.{true_not_false, neither}
 use Rattle.flags.proofs.Places.{seen_none, seen_flags, seen_clear, seen_first, seen_after}
-use Rattle.packed.specs.Packed.{front, PackStep, step_of}
-use Rattle.packed.specs.Packed.CodeLaws.{step_otherwise}
+use Rattle.packed.specs.Packed.{bytes, front, packed}
+use Rattle.packed.specs.Packed.CodeLaws.{plain_code}
 use Rattle.runs.specs.Inner.{unlike_at}
 use Rattle.stretches.specs.Inner.{may_code, may_code_at, Stopped}
 use Rattle.stores.proofs.StoredBytes.{at_block, put_over}
 use Rattle.runs.proofs.RunLength.{front_at}
+use Rattle.packed.proofs.Frame.{Verbatim, packed_as, verbatim}
 
--- where no code may begin, the step is of case 4
-front_few : (x : ℕ) (xs : List ℕ) → (eqb x (get_or xs 0 0) && eqb (get_or xs 3 0) (get_or xs 0 0)) ≡ false → front x xs < 4
+-- where no code may begin, a byte packs to itself
+front_few : (x : ℕ) (xs : List ℕ) → may_code x (get_or xs 0 0) (get_or xs 3 0) ≡ false → front x xs < 4
 front_few x xs c =
+    let p = neither (eqb x 237) (eqb x (get_or xs 0 0) && eqb (get_or xs 3 0) (get_or xs 0 0)) c in
     let q : 3 < front x xs → ⊥ = λ h.
     (let a = front_at x xs 0 (omega arith) in
-    true_not_false (sym (rw (eq-eqb x (get_or xs 0 0) (sym a), eq-eqb (get_or xs 3 0) (get_or xs 0 0) (front_at x xs 3 h ∙ sym a)) refl) ∙ c)) in
+    true_not_false (sym (rw (eq-eqb x (get_or xs 0 0) (sym a), eq-eqb (get_or xs 3 0) (get_or xs 0 0) (front_at x xs 3 h ∙ sym a)) refl) ∙ p.1)) in
     omega arith
 
-pub plain_step : (x : ℕ) (xs : List ℕ) → may_code x (get_or xs 0 0) (get_or xs 3 0) ≡ false → (step_of x xs).case ≡ 4
-plain_step x xs c =
+one_plain : (x : ℕ) (xs : List ℕ) → may_code x (get_or xs 0 0) (get_or xs 3 0) ≡ false → packed_as (x ∷ xs) ≡ bytes (x ∷ packed xs)
+one_plain x xs c =
     let p = neither (eqb x 237) (eqb x (get_or xs 0 0) && eqb (get_or xs 3 0) (get_or xs 0 0)) c in
-    ap (λ (s : PackStep). s.case) (step_otherwise x xs (suc (front x xs)) refl (eqb-false x 237 p.0) (omega (arith, front_few x xs p.1)))
+    ap bytes (plain_code x xs (eqb-false x 237 p.0) (front_few x xs c))
 
--- the flags say something of what is ahead
+-- what is stopped before stands for itself, and the flags say something of what is ahead
 module _ (s : List ℕ) (i : ℕ) (d : List ℕ) (o k u : ℕ) (d' : List ℕ) (t : Stopped s i d o k u d') where
+  pub stopped_part : i + 20 ≤ length s → Verbatim packed_as s i k
+  stopped_part h =
+      verbatim packed_as (λ (l : List ℕ). may_code (get_or l 0 0) (get_or l 1 0) (get_or l 4 0) ≡ false) one_plain s i k (omega (arith, t.few))
+      (λ j l. rw (get_or-drop (i + j) s 0 0, get_or-drop (i + j) s 1 0, get_or-drop (i + j) s 4 0, add-zero (i + j)) (t.before j l))
+
   pub stopped_ahead : Ahead (unlike_at s) (i + k) u
   stopped_ahead = record { places = 16 - k; most = omega arith; seen = t.unlike }
 

@@ -1,10 +1,12 @@
 // Bytes that pack to themselves: where a code may begin is looked up for 16 places at once, and how long a run is in the same look.
+#![tactic(auto)]
+
 ghost use Rattle.std.specs.Prelude.{◌+◌, ◌≤◌, ◌≡◌, not, eqb, length, get_or};
 ghost use Rattle.flags.specs.Places.{Flagged};
 ghost use Rattle.stretches.specs.Inner.{may_code, Stopped};
 
 // Where a code may begin, and flags for the bytes unlike the next, from there on.
-#[derive(Drop)]
+#[derive(Clone, Copy)]
 pub struct Stop {
     pub at: usize,
     pub unlike: u64,

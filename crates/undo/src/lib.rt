@@ -1,4 +1,6 @@
 // Undo and redo, once a call is sound: the value of a step put back where the step points, or put there again.
+#![tactic(auto)]
+
 ghost use Rattle.std.specs.Prelude.{ℕ, ◌≡◌, List};
 ghost use Rattle.session.specs.Session.{session_on, result_of};
 ghost use Rattle.log_steps.specs.Inner.{Ready};

@@ -1,4 +1,6 @@
 // Unpacking near an end, byte by byte.
+#![tactic(auto)]
+
 ghost use Rattle.std.specs.Prelude.{◌≤◌, ◌≡◌, [], length, take, drop, replicate};
 ghost use Rattle.packed.specs.Packed.{before, unpacked};
 ghost use Rattle.packed.specs.Unpacking.{length_counted, Unpacks};

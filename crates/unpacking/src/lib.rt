@@ -1,4 +1,6 @@
 // Unpacking. Where ED ED stands is looked up for 64 places at once, and the flags serve for every code among them.
+#![tactic(auto)]
+
 ghost use Rattle.std.specs.Prelude.{length};
 ghost use Rattle.packed.specs.Packed.{unpacked};
 ghost use Rattle.packed.specs.Unpacking.{Unpacks};

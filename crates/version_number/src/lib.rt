@@ -1,4 +1,6 @@
 // The library's version, as a C program asks for it.
+#![tactic(auto)]
+
 ghost use Rattle.std.specs.Prelude.{◌≡◌};
 ghost use Rattle.version_number.specs.Version.{library_version};
 

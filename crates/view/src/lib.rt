@@ -1,4 +1,6 @@
 // Viewing a page: where it lies, and the page itself as a part of the ROM or of the area.
+#![tactic(auto)]
+
 ghost use Rattle.std.specs.Prelude.{◌≡◌};
 ghost use Rattle.view.specs.View.{rom_length, rom_pages, has_page, view_answer, part_for, view_of};
 
@@ -7,7 +9,7 @@ use pages::Model;
 use spectrum::Machine;
 
 // Where a page lies, and at which byte it starts.
-#[derive(Drop)]
+#[derive(Clone, Copy)]
 pub enum Part {
     Nowhere,
     InArea(usize),

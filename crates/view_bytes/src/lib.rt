@@ -1,4 +1,6 @@
 // A view over bytes: the machine crosses as its header.
+#![tactic(auto)]
+
 ghost use Rattle.std.specs.Prelude.{length};
 ghost use Rattle.view_bytes.specs.Views.{Shows, show_of};
 

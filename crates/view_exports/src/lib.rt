@@ -1,4 +1,6 @@
 // The page that `view::view` returns, copied out under a C name, for tests only.
+#![tactic(auto)]
+
 ghost use Rattle.std.specs.Prelude.{◌≡◌, length};
 ghost use Rattle.view_exports.specs.Viewed.{viewed_of, page_into};
 

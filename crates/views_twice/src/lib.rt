@@ -1,4 +1,6 @@
 // Demand 1 of the functions that a C program calls: each call made twice on buffers that differ only in what is to be overwritten.
+#![tactic(auto)]
+
 ghost use Rattle.std.specs.Prelude.{length};
 ghost use Rattle.view_bytes.specs.Views.{show_of};
 ghost use Rattle.views_twice.specs.ViewsTwice.{ViewsTwo, LogStartsTwo};

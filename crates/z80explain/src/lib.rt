@@ -1,4 +1,6 @@
 // Why a .Z80 file is refused: the parse of reading, without an area.
+#![tactic(auto)]
+
 ghost use Rattle.std.specs.Prelude.{◌≤◌, ◌≡◌, length};
 ghost use Rattle.slices.specs.Blank.{blank};
 ghost use Rattle.header.specs.Heads.{header_length};
@@ -11,7 +13,7 @@ use numbers::{Answer, FileFault};
 use pages::Model;
 
 // The answer of reading, the place that is named with it, the block from 1 on, what was found and what is due.
-#[derive(Drop)]
+#[derive(Clone, Copy)]
 pub struct Explained {
     pub answer: Answer,
     pub place: usize,

@@ -1,4 +1,6 @@
 // Reading a .Z80 file, v1, v2 or v3, into a machine and a lent area of 131,072 bytes.
+#![tactic(auto)]
+
 ghost use Rattle.std.specs.Prelude.{◌≤◌, ◌≡◌, length};
 ghost use Rattle.slices.specs.Blank.{blank};
 ghost use Rattle.numbers.specs.declared.Answer.TheVariants.{Accepted, Refused};
@@ -16,7 +18,7 @@ use pages::Model;
 use spectrum::{Attachment, Machine};
 
 // What reading gives beside the area: the answer, the place in the file that is named with it, and the machine.
-#[derive(Drop)]
+#[derive(Clone, Copy)]
 pub struct Opened {
     pub answer: Answer,
     pub place: usize,

@@ -1,5 +1,7 @@
 // Writing the one v3 file of a machine and its memory: blocks are packed into the output itself, then the header.
 // Above blocks_write and header_write, through their promises alone.
+#![tactic(auto)]
+
 ghost use Rattle.std.specs.Prelude.{length};
 ghost use Rattle.z80write.specs.Written.{refused_write, written_of, Writes};
 
@@ -8,7 +10,7 @@ use packed::Fit;
 use spectrum::Machine;
 
 // The answer of writing, and the file's length.
-#[derive(Drop)]
+#[derive(Clone, Copy)]
 pub struct Written {
     pub answer: Answer,
     pub length: usize,

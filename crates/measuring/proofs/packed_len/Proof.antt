@@ -2,9 +2,7 @@ use Prim.Native.Nat.{◌-◌}
 use lib.ListN.{length}
 use native.Mathlib.Omega.{arith}
 use borrow.Author.Rules.{rules}
-use Rattle.pack_step.proofs.StepLaws.{made_inside}
-use Rattle.packing.proofs.PackLoop.{stretched}
-use Rattle.measuring.proofs.Measured.{Measured, measured_none, measured_stretch, measured_step, measured_most, measured_all}
+use Rattle.measuring.proofs.Measured.{Measured, measured_none, measured_run_ed, measured_single, measured_last, measured_run, measured_short, measured_most, measured_all}
 use Rattle.measuring.proofs.packed_len.Statement.{statement}
 use Rattle.measuring.proofs.packed_len.Tie as tie
 
@@ -17,46 +15,74 @@ decreases-loop src i₀ len₀ i len = length src - i
 loop-holds : tie.Need-loop-init invariant-loop decreases-loop
 loop-holds c = search measured_none
 
-slice-aggregate-plain-stretch : tie.Need-slice-aggregate-plain-stretch invariant-loop decreases-loop
-slice-aggregate-plain-stretch c = search rules
+run-at-requires : tie.Need-run-at-requires invariant-loop decreases-loop
+run-at-requires c κs = search rules
 
-plain-stretch-requires : tie.Need-plain-stretch-requires invariant-loop decreases-loop
-plain-stretch-requires c κs = search rules
-
-add-i : tie.Need-overflow-add-i invariant-loop decreases-loop
-add-i c = let t = stretched _ _ _ _ _ _ c.before.plain-stretch.ensures (search rules) (search rules) in omega (arith, t.all, t.inside)
+shared-slice-read-if1 : tie.Need-shared-slice-read-if1 invariant-loop decreases-loop
+shared-slice-read-if1 c = search rules
 
 add-len : tie.Need-overflow-add-len invariant-loop decreases-loop
-add-len c = let t = stretched _ _ _ _ _ _ c.before.plain-stretch.ensures (search rules) (search rules) in let g = measured_stretch _ _ _ c.before.before.before.before.loop.invariant _ _ _ t in omega (arith, measured_most _ _ _ g, c.before.before.before.before.before.before.well-formed)
+add-len c = let p = c.before.before.before.before.before in omega (arith, measured_most _ _ _ p.loop.invariant, p.before.before.well-formed)
 
-run-from-requires : tie.Need-run-from-requires invariant-loop decreases-loop
-run-from-requires c κs = let t = stretched _ _ _ _ _ _ c.before.before.plain-stretch.ensures (search rules) (search rules) in (t.next c.if1.true, t.unlike)
-
-slice-aggregate-pack-step : tie.Need-slice-aggregate-pack-step invariant-loop decreases-loop
-slice-aggregate-pack-step c = search rules
-
-pack-step-requires : tie.Need-pack-step-requires invariant-loop decreases-loop
-pack-step-requires c κs = let t = stretched _ _ _ _ _ _ c.before.before.before.before.plain-stretch.ensures (search rules) (search rules) in (t.next c.before.before.if1.true, (c.before.run-from.ensures, search rules))
-
-add-i-2 : tie.Need-overflow-add-i-2 invariant-loop decreases-loop
-add-i-2 c = let t = stretched _ _ _ _ _ _ c.before.before.before.before.before.before.before.plain-stretch.ensures (search rules) (search rules) in omega (arith, made_inside _ _ _ c.before.before.pack-step.ensures.answer (t.next c.before.before.before.before.before.if1.true))
-
-add-len-2 : tie.Need-overflow-add-len-2 invariant-loop decreases-loop
-add-len-2 c = let t = stretched _ _ _ _ _ _ c.before.before.before.before.before.before.before.before.plain-stretch.ensures (search rules) (search rules) in let g = measured_stretch _ _ _ c.before.before.before.before.before.before.before.before.before.before.before.loop.invariant _ _ _ t in omega (arith, measured_most _ _ _ g, c.before.before.before.before.before.before.before.before.before.before.before.before.before.well-formed, made_inside _ _ _ c.before.before.before.pack-step.ensures.answer (t.next c.before.before.before.before.before.before.if1.true))
+add-i : tie.Need-overflow-add-i invariant-loop decreases-loop
+add-i c = search rules
 
 loop-less : tie.Need-loop-smaller invariant-loop decreases-loop
-loop-less c = let t = stretched _ _ _ _ _ _ c.before.before.before.before.before.before.before.before.plain-stretch.ensures (search rules) (search rules) in omega (arith, made_inside _ _ _ c.before.before.before.pack-step.ensures.answer (t.next c.before.before.before.before.before.before.if1.true))
+loop-less c = search rules
 
 loop-again : tie.Need-loop-preserved invariant-loop decreases-loop
-loop-again c =
-    let t = stretched _ _ _ _ _ _ c.before.before.before.before.before.before.before.before.plain-stretch.ensures (search rules) (search rules) in
-    measured_step _ _ _ (measured_stretch _ _ _ c.before.before.before.before.before.before.before.before.before.before.before.loop.invariant _ _ _ t) _ _ _ c.before.before.before.pack-step.ensures (t.next c.before.before.before.before.before.before.if1.true)
+loop-again c = search measured_run_ed
+
+add-if3 : tie.Need-overflow-add-if3 invariant-loop decreases-loop
+add-if3 c = search rules
+
+add-len-2 : tie.Need-overflow-add-len-2 invariant-loop decreases-loop
+add-len-2 c = let p = c.before.before.before.before.before.before in omega (arith, measured_most _ _ _ p.loop.invariant, p.before.before.well-formed)
+
+add-i-2 : tie.Need-overflow-add-i-2 invariant-loop decreases-loop
+add-i-2 c = search rules
 
 loop-less-2 : tie.Need-loop-smaller-2 invariant-loop decreases-loop
-loop-less-2 c = let t = stretched _ _ _ _ _ _ c.before.before.plain-stretch.ensures (search rules) (search rules) in omega (arith, t.all, t.inside)
+loop-less-2 c = search rules
 
 loop-again-2 : tie.Need-loop-preserved-2 invariant-loop decreases-loop
-loop-again-2 c = let t = stretched _ _ _ _ _ _ c.before.before.plain-stretch.ensures (search rules) (search rules) in measured_stretch _ _ _ c.before.before.before.before.before.loop.invariant _ _ _ t
+loop-again-2 c = search measured_last
+
+add-len-3 : tie.Need-overflow-add-len-3 invariant-loop decreases-loop
+add-len-3 c = let p = c.before.before.before.before.before.before in omega (arith, measured_most _ _ _ p.loop.invariant, p.before.before.well-formed)
+
+add-i-3 : tie.Need-overflow-add-i-3 invariant-loop decreases-loop
+add-i-3 c = search rules
+
+loop-less-3 : tie.Need-loop-smaller-3 invariant-loop decreases-loop
+loop-less-3 c = search rules
+
+loop-again-3 : tie.Need-loop-preserved-3 invariant-loop decreases-loop
+loop-again-3 c = search measured_single
+
+add-len-4 : tie.Need-overflow-add-len-4 invariant-loop decreases-loop
+add-len-4 c = let p = c.before.before.before.before.before in omega (arith, measured_most _ _ _ p.loop.invariant, p.before.before.well-formed)
+
+add-i-4 : tie.Need-overflow-add-i-4 invariant-loop decreases-loop
+add-i-4 c = search rules
+
+loop-less-4 : tie.Need-loop-smaller-4 invariant-loop decreases-loop
+loop-less-4 c = search rules
+
+loop-again-4 : tie.Need-loop-preserved-4 invariant-loop decreases-loop
+loop-again-4 c = search measured_run
+
+add-len-5 : tie.Need-overflow-add-len-5 invariant-loop decreases-loop
+add-len-5 c = let p = c.before.before.before.before.before in omega (arith, measured_most _ _ _ p.loop.invariant, p.before.before.well-formed)
+
+add-i-5 : tie.Need-overflow-add-i-5 invariant-loop decreases-loop
+add-i-5 c = search rules
+
+loop-less-5 : tie.Need-loop-smaller-5 invariant-loop decreases-loop
+loop-less-5 c = search rules
+
+loop-again-5 : tie.Need-loop-preserved-5 invariant-loop decreases-loop
+loop-again-5 c = search measured_short
 
 returns : tie.Need-returns invariant-loop decreases-loop
 returns c = search measured_all
@@ -68,17 +94,27 @@ packed-len-spec =
     invariant-loop
     decreases-loop
     loop-holds
-    slice-aggregate-plain-stretch
-    plain-stretch-requires
-    add-i
+    run-at-requires
+    shared-slice-read-if1
     add-len
-    run-from-requires
-    slice-aggregate-pack-step
-    pack-step-requires
-    add-i-2
-    add-len-2
+    add-i
     loop-less
     loop-again
+    add-if3
+    add-len-2
+    add-i-2
     loop-less-2
     loop-again-2
+    add-len-3
+    add-i-3
+    loop-less-3
+    loop-again-3
+    add-len-4
+    add-i-4
+    loop-less-4
+    loop-again-4
+    add-len-5
+    add-i-5
+    loop-less-5
+    loop-again-5
     returns)

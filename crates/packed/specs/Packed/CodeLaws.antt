@@ -1,11 +1,11 @@
 -- Laws of one step, which serve proofs only: what a place of packed data stands for, and what a place of plain data packs to. A reviewer may
 -- skip this file.
-use Rattle.std.specs.Prelude.{ℕ, zero, suc, ◌-◌, ◌≤◌, ◌<◌, min, ◌≡◌, refl, Bool, true, false, List, [], ◌∷◌, ◌++◌, length, get_or, take, drop, replicate, eqb, leb}
-use Rattle.std.proofs.Common.{not-suc-le-zero, arith, sym, ap, ◌∙◌, length-take}
-use borrow.Author.Tests.{eqb-true, eqb-false, ne_eqb, eq-eqb, leb-true, leb-false, le-leb, lt-leb}
-use Rattle.slices.specs.Choose.{both}
+use Rattle.std.specs.Prelude.{ℕ, zero, suc, ◌-◌, ◌≤◌, ◌<◌, min, ◌≡◌, refl, Bool, true, false, List, [], ◌∷◌, ◌++◌, length, get_or, take, drop, replicate, eqb}
+use Rattle.std.proofs.Common.{not-suc-le-zero, arith, sym, ap, ◌∙◌, eqb-true, ne_eqb, eq-eqb, le-leb}
+use Rattle.std.proofs.lemmas.Bool.{eqb-false, lt-leb}
+use Rattle.slices.specs.Choose.{choose, both}
 use Rattle.slices.proofs.Chosen.{either}
-use Rattle.packed.specs.Packed.{malformed, bytes, before, escape, run, unpacked, front, PackStep, pack_step, step_of, packed_from, packed}
+use Rattle.packed.specs.Packed.{malformed, bytes, before, escape, run, unpacked, front, packed_from, packed}
 
 -- a byte stands for itself where it and the next are not both ED
 pub alone : (x b : ℕ) (s : List ℕ) → escape x b ≡ false → unpacked (x ∷ b ∷ s) ≡ before 1 (x ∷ []) (unpacked (b ∷ s))
@@ -61,80 +61,43 @@ pub packed_nil : packed [] ≡ []
 unfolding packed packed_from
 packed_nil = refl
 
-pub front_le : (x : ℕ) (xs : List ℕ) → front x xs ≤ length xs
-front_le x [] = omega arith
-front_le x (y ∷ ys) =
-    let ih = front_le x ys in
-    either (λ (n : ℕ). n ≤ suc (length ys)) (eqb y x) (suc (front x ys)) 0 (λ e. omega arith) (λ e. omega arith)
-
--- the step in each case, n being what is left of the run
-module _ (x : ℕ) (xs : List ℕ) (n : ℕ) (q : n ≡ suc (front x xs)) where
-  pub step_many_ED : x ≡ 237 → 2 ≤ n → step_of x xs ≡ pack_step 1 (237 ∷ 237 ∷ min n 255 ∷ 237 ∷ []) (min n 255)
-  unfolding step_of
-  step_many_ED e h = rw (sym q, eq-eqb x 237 e, le-leb 2 n h)
-
-  pub step_single_ED : x ≡ 237 → n ≡ 1 → step_of x xs ≡ pack_step 2 (237 ∷ take 1 xs) (length (237 ∷ take 1 xs))
-  unfolding step_of
-  step_single_ED e h = rw (sym q, eq-eqb x 237 e, lt-leb 2 n (omega arith), eq-eqb n 1 h)
-
-  pub step_many : (x ≡ 237 → ⊥) → 5 ≤ n → step_of x xs ≡ pack_step 3 (237 ∷ 237 ∷ min n 255 ∷ x ∷ []) (min n 255)
-  unfolding step_of
-  step_many e h = rw (sym q, ne_eqb x 237 e, le-leb 5 n h)
-
-  pub step_otherwise : (x ≡ 237 → ⊥) → n < 5 → step_of x xs ≡ pack_step 4 (x ∷ []) 1
-  unfolding step_of
-  step_otherwise e h = rw (sym q, ne_eqb x 237 e, lt-leb 5 n h)
-
--- what holds in each of the four cases holds of the step
-pub by_case {ℓ} : (P : PackStep → Type ℓ) (x : ℕ) (xs : List ℕ) (n : ℕ) → n ≡ suc (front x xs)
-    → (x ≡ 237 → 2 ≤ n → P (pack_step 1 (237 ∷ 237 ∷ min n 255 ∷ 237 ∷ []) (min n 255)))
-    → (x ≡ 237 → n ≡ 1 → P (pack_step 2 (237 ∷ take 1 xs) (length (237 ∷ take 1 xs))))
-    → ((x ≡ 237 → ⊥) → 5 ≤ n → P (pack_step 3 (237 ∷ 237 ∷ min n 255 ∷ x ∷ []) (min n 255)))
-    → ((x ≡ 237 → ⊥) → n < 5 → P (pack_step 4 (x ∷ []) 1))
-    → P (step_of x xs)
-by_case P x xs n q a b c d = go (eqb x 237) refl
-  where
-    go : (t : Bool) → eqb x 237 ≡ t → P (step_of x xs)
-    go true e =
-        let v = eqb-true x 237 e in
-        either (λ (_ : Bool). P (step_of x xs)) (leb 2 n) true false
-        (λ f. let h = leb-true 2 n f in rw (step_many_ED x xs n q v h) (a v h))
-        (λ f. let h : n ≡ 1 = omega (arith, leb-false 2 n f) in rw (step_single_ED x xs n q v h) (b v h))
-    go false e =
-        let v = eqb-false x 237 e in
-        either (λ (_ : Bool). P (step_of x xs)) (leb 5 n) true false
-        (λ f. let h = leb-true 5 n f in rw (step_many x xs n q v h) (c v h))
-        (λ f. let h = leb-false 5 n f in rw (step_otherwise x xs n q v h) (d v h))
-
--- a step of case 4 is one plain byte
-pub case_plain : (x : ℕ) (xs : List ℕ) → (step_of x xs).case ≡ 4 → step_of x xs ≡ pack_step 4 (x ∷ []) 1
-case_plain x xs =
-    by_case (λ (s : PackStep). s.case ≡ 4 → s ≡ pack_step 4 (x ∷ []) 1) x xs (suc (front x xs)) refl (λ e h z. absurd (omega arith)) (λ e h z. absurd (omega arith)) (λ e h z. absurd (omega arith))
-    (λ e h z. refl)
-
--- a step takes a byte or more, and no more than there are, and writes at most four
-pub step_most : (x : ℕ) (xs : List ℕ) → length (step_of x xs).written ≤ 4
-step_most x xs =
-    by_case (λ (s : PackStep). length s.written ≤ 4) x xs (suc (front x xs)) refl (λ e h. omega arith) (λ e h. omega (arith, length-take 1 xs)) (λ e h. omega arith) (λ e h. omega arith)
-
-pub step_some : (x : ℕ) (xs : List ℕ) → (1 ≤ (step_of x xs).taken) × ((step_of x xs).taken ≤ length (x ∷ xs))
-step_some x xs =
-    by_case (λ (s : PackStep). (1 ≤ s.taken) × (s.taken ≤ length (x ∷ xs))) x xs (suc (front x xs)) refl
-    (λ e h. (omega arith, omega (arith, front_le x xs)))
-    (λ e h. (omega arith, omega (arith, length-take 1 xs)))
-    (λ e h. (omega arith, omega (arith, front_le x xs)))
-    (λ e h. (omega arith, omega arith))
-
 pub from_drop : (k : ℕ) (xs : List ℕ) → packed_from k xs ≡ packed (drop k xs)
 unfolding packed packed_from
 from_drop zero xs = refl
 from_drop (suc k) [] = refl
 from_drop (suc k) (x ∷ xs) = from_drop k xs
 
--- packing is a step, and then packing what it has not taken
-pub packed_step : (x : ℕ) (xs : List ℕ) → packed (x ∷ xs) ≡ (step_of x xs).written ++ packed (drop (step_of x xs).taken (x ∷ xs))
+pub run_code : (x : ℕ) (xs : List ℕ) (n : ℕ) → n ≡ suc (front x xs) → (x ≡ 237 → 2 ≤ n) → ((x ≡ 237 → ⊥) → 5 ≤ n)
+    → packed (x ∷ xs) ≡ (237 ∷ 237 ∷ min n 255 ∷ x ∷ []) ++ packed (drop (min n 255 - 1) xs)
 unfolding packed packed_from
-packed_step x xs =
-    let k = (step_of x xs).taken in
-    let e : k ≡ suc (k - 1) = omega (arith, (step_some x xs).0) in
-    ap (λ (l : List ℕ). (step_of x xs).written ++ l) (from_drop (k - 1) xs ∙ ap (λ (m : ℕ). packed (drop m (x ∷ xs))) (sym e))
+run_code x xs n e h k =
+    rw (sym e)
+    (either Gives (eqb x 237) _ _
+    (λ f. rw (le-leb 2 n (h (eqb-true x 237 f))) (done 237 (sym (eqb-true x 237 f))))
+    (λ f. rw (le-leb 5 n (k (eqb-false x 237 f))) (done x refl)))
+  where
+    Gives : List ℕ → Type 0
+    Gives l = l ≡ (237 ∷ 237 ∷ min n 255 ∷ x ∷ []) ++ packed (drop (min n 255 - 1) xs)
+
+    done : (y : ℕ) → y ≡ x → Gives (237 ∷ 237 ∷ min n 255 ∷ y ∷ packed_from (min n 255 - 1) xs)
+    done y q =
+        ap (λ (z : ℕ). 237 ∷ 237 ∷ min n 255 ∷ z ∷ packed_from (min n 255 - 1) xs) q
+        ∙ ap (λ (l : List ℕ). 237 ∷ 237 ∷ min n 255 ∷ x ∷ l) (from_drop (min n 255 - 1) xs)
+
+pub single_code : (x : ℕ) (xs : List ℕ) → x ≡ 237 → front x xs < 1 → packed (x ∷ xs) ≡ (237 ∷ take 1 xs) ++ packed (drop 1 xs)
+unfolding packed packed_from
+single_code x xs e k = rw (eq-eqb x 237 e, lt-leb 2 (suc (front x xs)) (omega arith)) (ap (λ (l : List ℕ). 237 ∷ (take 1 xs ++ l)) (from_drop 1 xs))
+
+pub plain_code : (x : ℕ) (xs : List ℕ) → (x ≡ 237 → ⊥) → front x xs < 4 → packed (x ∷ xs) ≡ x ∷ packed xs
+unfolding packed packed_from
+plain_code x xs h k = rw (ne_eqb x 237 h, lt-leb 5 (suc (front x xs)) (omega arith))
+
+pub short_code : (x : ℕ) (xs : List ℕ) → (x ≡ 237 → ⊥) → front x xs < 4 → packed (x ∷ xs) ≡ x ∷ (replicate (front x xs) x ++ packed (drop (front x xs) xs))
+short_code x [] h k = plain_code x [] h k
+short_code x (y ∷ ys) h k = plain_code x (y ∷ ys) h k ∙ ap (λ (l : List ℕ). x ∷ l) (go (eqb y x) refl k (short_code x ys h))
+  where
+    go : (t : Bool) → eqb y x ≡ t → choose t (suc (front x ys)) 0 < 4
+        → (front x ys < 4 → packed (x ∷ ys) ≡ x ∷ (replicate (front x ys) x ++ packed (drop (front x ys) ys)))
+        → packed (y ∷ ys) ≡ replicate (choose t (suc (front x ys)) 0) x ++ packed (drop (choose t (suc (front x ys)) 0) (y ∷ ys))
+    go true e k ih = ap (λ (z : ℕ). packed (z ∷ ys)) (eqb-true y x e) ∙ ih (omega arith)
+    go false e k ih = refl

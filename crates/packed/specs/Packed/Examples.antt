@@ -1,8 +1,7 @@
--- The examples P1 to P11 of document 01, as one table under one statement; the cases that P1 to P9 go through; and packed data of the greatest
--- length.
+-- The examples P1 to P11 of document 01, as one table under one statement; and packed data of the greatest length.
 use Rattle.std.specs.Prelude.{ℕ, zero, suc, ◌≡◌, refl, List, [], ◌∷◌, ◌++◌, map, length, replicate}
 use Rattle.std.proofs.Common.{ap}
-use Rattle.packed.specs.Packed.{Found, malformed, bytes, unpacked, PackStep, step_of, packed, packed_from, steps_of, steps_from}
+use Rattle.packed.specs.Packed.{Found, malformed, bytes, unpacked, packed, packed_from}
 
 pub data Example : Type 0 where
   packs : List ℕ → List ℕ → Example
@@ -34,30 +33,8 @@ table =
     ∷ []
 
 pub examples : map computed table ≡ map expected table
-unfolding table unpacked packed packed_from step_of
+unfolding table unpacked packed packed_from
 examples = refl
-
--- the cases of the steps that pack an example
-abbrev pub cases_of : Example → List ℕ
-cases_of (packs xs ys) = map (λ (s : PackStep). s.case) (steps_of xs)
-cases_of (unpacks xs f) = []
-
-unfoldable pub cases_due : List (List ℕ)
-cases_due =
-    (3 ∷ [])  -- P1
-    ∷ (4 ∷ 4 ∷ 4 ∷ 4 ∷ [])  -- P2
-    ∷ (2 ∷ [])  -- P3
-    ∷ (1 ∷ [])  -- P4
-    ∷ (2 ∷ 3 ∷ [])  -- P5
-    ∷ (2 ∷ 4 ∷ 4 ∷ 4 ∷ 4 ∷ [])  -- P6
-    ∷ (3 ∷ 4 ∷ [])  -- P7
-    ∷ (1 ∷ 2 ∷ 3 ∷ [])  -- P8
-    ∷ []  -- P9
-    ∷ [] ∷ [] ∷ [] ∷ [] ∷ []
-
-pub traces : map cases_of table ≡ cases_due
-unfolding table cases_due steps_of steps_from step_of
-traces = refl
 
 -- n times ED ED 00, and one 00
 unfoldable pub worst : ℕ → List ℕ
@@ -66,7 +43,7 @@ worst (suc n) = 0xED ∷ 0xED ∷ 0 ∷ worst n
 
 -- the bound of 16,384 bytes packed is reached
 pub longest : (length (worst 5461) ≡ 16384) × (length (packed (worst 5461)) ≡ 27306)
-unfolding worst packed packed_from step_of
+unfolding worst packed packed_from
 longest = (refl, refl)
 
 -- k times ED 00
@@ -76,6 +53,6 @@ mixed (suc k) = 0xED ∷ 0 ∷ mixed k
 
 -- it packs to itself, so that packing 16,384 such bytes saves none
 pub mixed_packed : (k : ℕ) → packed (mixed k) ≡ mixed k
-unfolding mixed packed packed_from step_of
+unfolding mixed packed packed_from
 mixed_packed zero = refl
 mixed_packed (suc k) = ap (λ (l : List ℕ). 0xED ∷ 0 ∷ l) (mixed_packed k)

@@ -6,48 +6,8 @@ use Rattle.std.proofs.lemmas.List.{length-replicate}
 use Rattle.std.proofs.lemmas.Bool.{eqb-false}
 use Rattle.slices.specs.Choose.{choose}
 use Rattle.slices.proofs.Chosen.{either}
-use Rattle.packed.specs.Packed.{Found, malformed, bytes, before, escape, unpacked, front, PackStep, pack_step, step_of, CaseHolds, many_ED, single_ED, many, otherwise, packed_from, packed, steps_from, steps_of, written_by}
-use Rattle.packed.specs.Packed.CodeLaws.{alone, plain, code, front_le, by_case}
-
--- the case that the step answers is the one that holds there
-pub case_holds : (x : ℕ) (xs : List ℕ) → CaseHolds (step_of x xs).case x (suc (front x xs))
-case_holds x xs =
-    by_case (λ (s : PackStep). CaseHolds s.case x n) x xs n refl many_ED single_ED many
-    (λ e h. otherwise (λ z _. e z) (λ z _. e z) (λ _ k. omega arith))
-  where
-    n : ℕ
-    n = suc (front x xs)
-
--- no two of the four hold at once
-pub one_case : {c d x n : ℕ} → CaseHolds c x n → CaseHolds d x n → c ≡ d
-one_case (many_ED e h) (many_ED f k) = refl
-one_case (many_ED e h) (single_ED f k) = let z : ⊥ = omega arith in absurd z
-one_case (many_ED e h) (many f k) = absurd (f e)
-one_case (many_ED e h) (otherwise f g k) = absurd (f e h)
-one_case (single_ED e h) (many_ED f k) = let z : ⊥ = omega arith in absurd z
-one_case (single_ED e h) (single_ED f k) = refl
-one_case (single_ED e h) (many f k) = absurd (f e)
-one_case (single_ED e h) (otherwise f g k) = absurd (g e h)
-one_case (many e h) (many_ED f k) = absurd (e f)
-one_case (many e h) (single_ED f k) = absurd (e f)
-one_case (many e h) (many f k) = refl
-one_case (many e h) (otherwise f g k) = absurd (k e h)
-one_case (otherwise e f g) (many_ED h k) = absurd (e h k)
-one_case (otherwise e f g) (single_ED h k) = absurd (f h k)
-one_case (otherwise e f g) (many h k) = absurd (g h k)
-one_case (otherwise e f g) (otherwise h k l) = refl
-
--- what is packed is what the steps write
-steps_write : (k : ℕ) (xs : List ℕ) → packed_from k xs ≡ written_by (steps_from k xs)
-unfolding packed_from steps_from written_by
-steps_write zero [] = refl
-steps_write (suc k) [] = refl
-steps_write (suc k) (x ∷ xs) = steps_write k xs
-steps_write zero (x ∷ xs) = ap (λ (l : List ℕ). (step_of x xs).written ++ l) (steps_write ((step_of x xs).taken - 1) xs)
-
-pub packed_steps : (xs : List ℕ) → packed xs ≡ written_by (steps_of xs)
-unfolding packed steps_of
-packed_steps xs = steps_write 0 xs
+use Rattle.packed.specs.Packed.{Found, malformed, bytes, before, escape, unpacked, front, packed_from, packed}
+use Rattle.packed.specs.Packed.CodeLaws.{alone, plain, code}
 
 -- the bytes at the front
 covered : (x : ℕ) (xs : List ℕ) (k : ℕ) → k ≤ front x xs → replicate k x ++ drop k xs ≡ xs
@@ -78,7 +38,7 @@ run_back x xs k h ih =
     ∙ ap (before 4 (replicate (suc k) x)) ih
     ∙ ap (λ (l : List ℕ). bytes (x ∷ l)) (covered x xs k h)
 
-single_back : (xs : List ℕ) → front 237 xs < 1 → Back xs 1 → unpacked (237 ∷ (take 1 xs ++ packed_from (length (237 ∷ take 1 xs) - 1) xs)) ≡ bytes (237 ∷ xs)
+single_back : (xs : List ℕ) → front 237 xs < 1 → Back xs 1 → unpacked (237 ∷ (take 1 xs ++ packed_from 1 xs)) ≡ bytes (237 ∷ xs)
 unfolding Back packed_from unpacked
 single_back [] h ih = refl
 single_back (y ∷ ys) h ih = go (eqb y 237) refl h
@@ -91,23 +51,28 @@ single_back (y ∷ ys) h ih = go (eqb y 237) refl h
 
 step_back : (x : ℕ) (xs : List ℕ) → ((k : ℕ) → Back xs k) → Back (x ∷ xs) 0
 unfolding Back packed_from
-step_back x xs ih = by_case Gives x xs n refl (λ e h. is_long 237 (sym e)) is_single (λ e h. is_long x refl) (λ e h. plain x (packed_from 0 xs) e ∙ ap (before 1 (x ∷ [])) (ih 0))
+step_back x xs ih =
+    either Gives (eqb x 237) _ _
+    (λ e. either Gives (leb 2 n) _ _ (λ f. subst coded (eqb-true x 237 e) is_long) (λ f. is_single (eqb-true x 237 e) (omega (arith, leb-false 2 n f))))
+    (λ e. either Gives (leb 5 n) _ _ (λ f. is_long) (λ f. plain x (packed_from 0 xs) (eqb-false x 237 e) ∙ ap (before 1 (x ∷ [])) (ih 0)))
   where
     n : ℕ
     n = suc (front x xs)
 
-    Gives : PackStep → Type 0
-    Gives s = unpacked (s.written ++ packed_from (s.taken - 1) xs) ≡ bytes (x ∷ xs)
+    Gives : List ℕ → Type 0
+    Gives l = unpacked l ≡ bytes (x ∷ xs)
 
-    is_long : (y : ℕ) → y ≡ x → Gives (pack_step 3 (237 ∷ 237 ∷ min n 255 ∷ y ∷ []) (min n 255))
-    is_long y q =
+    coded : ℕ → Type 0
+    coded y = Gives (237 ∷ 237 ∷ min n 255 ∷ y ∷ packed_from (min n 255 - 1) xs)
+
+    is_long : coded x
+    is_long =
         let e : min n 255 ≡ suc (min n 255 - 1) = omega arith in
-        rw q
-        (ap (λ (m : ℕ). unpacked (237 ∷ 237 ∷ m ∷ x ∷ packed_from (min n 255 - 1) xs)) e
-        ∙ run_back x xs (min n 255 - 1) (omega arith) (ih (min n 255 - 1)))
+        ap (λ (m : ℕ). unpacked (237 ∷ 237 ∷ m ∷ x ∷ packed_from (min n 255 - 1) xs)) e
+        ∙ run_back x xs (min n 255 - 1) (omega arith) (ih (min n 255 - 1))
 
-    is_single : x ≡ 237 → n ≡ 1 → Gives (pack_step 2 (237 ∷ take 1 xs) (length (237 ∷ take 1 xs)))
-    is_single e h = let f : front x xs < 1 = omega arith in rw e (single_back xs (rw e at f) (ih 1))
+    is_single : x ≡ 237 → front x xs < 1 → Gives (237 ∷ (take 1 xs ++ packed_from 1 xs))
+    is_single e h = rw e (single_back xs (rw e at h) (ih 1))
 
 all_back : (xs : List ℕ) (k : ℕ) → Back xs k
 unfolding Back packed_from unpacked
@@ -121,6 +86,12 @@ pub unpacked_packed : (xs : List ℕ) → unpacked (packed xs) ≡ bytes xs
 unfolding Back packed
 unpacked_packed xs = all_back xs 0
 
+pub front_le : (x : ℕ) (xs : List ℕ) → front x xs ≤ length xs
+front_le x [] = omega arith
+front_le x (y ∷ ys) =
+    let ih = front_le x ys in
+    either (λ (n : ℕ). n ≤ suc (length ys)) (eqb y x) (suc (front x ys)) 0 (λ e. omega arith) (λ e. omega arith)
+
 -- l bytes are few enough for r bytes packed; fewer where the first of these is not ED
 Few : ℕ → ℕ → ℕ → Type 0
 Few l r x = (l ≤ r + 2 * ((r + 1) / 3)) × ((x ≡ 237 → ⊥) → l ≤ r + 2 * (r / 3))
@@ -131,25 +102,28 @@ Short xs k = Few (length (packed_from k xs)) (length xs - k) (get_or xs k 0)
 step_short : (x : ℕ) (xs : List ℕ) → ((k : ℕ) → Short xs k) → Short (x ∷ xs) 0
 unfolding Short Few packed_from
 step_short x xs ih =
-    by_case Gives x xs n refl
-    (λ e h. either (λ (_ : Bool). Gives (long 237)) (leb 3 n) true false (λ g. three e (leb-true 3 n g)) (λ g. two e (omega (arith, leb-false 3 n g))))
-    (λ e h. (simp length-append (omega (arith, length-take 1 xs, (ih (length (237 ∷ take 1 xs) - 1)).0)), λ z. absurd (z e)))
-    (λ e h. (omega (arith, (ih (min n 255 - 1)).0, front_le x xs), λ z. omega (arith, (ih (min n 255 - 1)).0, front_le x xs)))
-    (λ e h. (omega (arith, (ih 0).0), λ z. omega (arith, (ih 0).0)))
+    either Gives (eqb x 237) _ _
+    (λ e. let q : x ≡ 237 = eqb-true x 237 e in
+    either Gives (leb 2 n) _ _
+    (λ f. either (λ (b : Bool). Gives long) (leb 3 n) true false (λ g. three q (leb-true 3 n g)) (λ g. two q (omega (arith, leb-true 2 n f, leb-false 3 n g))))
+    (λ f. (simp (length-append, length-take) (omega (arith, (ih 1).0)), λ z. absurd (z q))))
+    (λ e. either Gives (leb 5 n) _ _
+    (λ f. let h = leb-true 5 n f in (omega (arith, (ih (min n 255 - 1)).0, front_le x xs), λ z. omega (arith, (ih (min n 255 - 1)).0, front_le x xs)))
+    (λ f. (omega (arith, (ih 0).0), λ z. omega (arith, (ih 0).0))))
   where
     n : ℕ
     n = suc (front x xs)
 
-    long : ℕ → PackStep
-    long y = pack_step 1 (237 ∷ 237 ∷ min n 255 ∷ y ∷ []) (min n 255)
+    long : List ℕ
+    long = 237 ∷ 237 ∷ min n 255 ∷ x ∷ packed_from (min n 255 - 1) xs
 
-    Gives : PackStep → Type 0
-    Gives s = Few (length (s.written ++ packed_from (s.taken - 1) xs)) (suc (length xs) - 0) x
+    Gives : List ℕ → Type 0
+    Gives l = Few (length l) (suc (length xs) - 0) x
 
-    three : x ≡ 237 → 3 ≤ n → Gives (long 237)
+    three : x ≡ 237 → 3 ≤ n → Gives long
     three q h = (omega (arith, (ih (min n 255 - 1)).0, front_le x xs), λ z. absurd (z q))
 
-    two : x ≡ 237 → front x xs ≡ 1 → Gives (long 237)
+    two : x ≡ 237 → front x xs ≡ 1 → Gives long
     two q h =
         let k : min n 255 - 1 ≡ 1 = omega arith in
         let d : get_or xs 1 0 ≡ 237 → ⊥ = λ e. front_ends x xs 0 (λ z. omega arith) (ap (λ (i : ℕ). get_or xs i 0) h ∙ e ∙ sym q) in
