@@ -1,0 +1,12 @@
+use Prim.Native.Nat.{◌-◌}
+use mathlib.Core.Bool.{not}
+use lib.Dec.{eqb}
+use lib.ListN.{get_or}
+use Rattle.flags.specs.Places.{Flagged}
+use Rattle.stretches.proofs.unlike_next.Given as goal
+
+abbrev pub invariant-loop-k : goal.invariant-loop-k
+invariant-loop-k l = Flagged (λ j. not (eqb (get_or l.block j 0) (get_or l.next j 0))) l.c l.k
+
+abbrev pub decreases-loop-k : goal.decreases-loop-k
+decreases-loop-k l = 16 - l.k
