@@ -134,11 +134,11 @@ module _ (plain : Bool) (src : List ℕ) (due : ℕ) where
   would_packed r e q = rw e q
 
 pub fills_plain : (plain : Bool) (src before after : List ℕ) → plain ≡ true → length src ≡ length before
-    → after ≡ take (length src) src ++ drop (length src) before → Fills plain src before after Good
+    → after ≡ src → Fills plain src before after Good
 fills_plain plain src before after e l q =
     record {
       answer = would_plain plain src (length before) e l;
-      memory = rw (e, eq-eqb _ _ l) (q ∙ rw (take-length src, drop_of_length-le before {i = length src} (omega arith), append-nil));
+      memory = rw (e, eq-eqb _ _ l) q;
     }
 
 pub fills_other : (plain : Bool) (src before after : List ℕ) (n : ℕ) → plain ≡ true → (length src ≡ length before → ⊥) → n ≡ length_counted (length src)

@@ -1,6 +1,6 @@
 -- The correction log over bytes: the machine crosses as its header, 20 first.
 use Rattle.std.specs.Prelude.{ℕ, ◌≡◌, List, replicate}
-use Rattle.std.specs.Borrow.{Bor}
+use Rattle.std.specs.Borrow.{MutBor}
 use denote.Triple.Both.{Both}
 use Rattle.slices.specs.Choose.{choose}
 use Rattle.spectrum.specs.declared.Machine.{Machine}
@@ -25,7 +25,7 @@ buffers header area log standing total = record { header = header; area = area; 
 
 -- what is lent to a function, as it came (`entry`) and as it is left (`exit`)
 abbrev pub Lent : Type 0 → Type 0
-Lent X = Both (Bor X) (Bor X)
+Lent X = Both (MutBor X) (MutBor X)
 
 -- the buffers of a call as they came, and as they are left
 abbrev pub buffers_in : Lent (List ℕ) → Lent (List ℕ) → Lent (List ℕ) → Lent ℕ → Lent ℕ → Buffers

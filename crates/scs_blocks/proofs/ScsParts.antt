@@ -63,12 +63,13 @@ module _ (src dst : List ℕ) (n : ℕ) (e : n ≡ min (length src) (length dst)
   taken_long : length taken ≡ n
   taken_long = simp length-take (omega arith)
 
-  pub filled_is : (copied cleared : List ℕ) → copied ≡ take (length taken) taken ++ drop (length taken) dst
-      → cleared ≡ take n copied ++ replicate (length copied - n) 0 → cleared ≡ zero_filled (length dst) src
+  pub filled_is : (part cleared : List ℕ) → part ≡ take n src
+      → cleared ≡ take n (part ++ drop n dst) ++ replicate (length (part ++ drop n dst) - n) 0 → cleared ≡ zero_filled (length dst) src
   unfolding zero_filled
-  filled_is copied cleared p q =
+  filled_is part cleared p q =
+      let copied : List ℕ = part ++ drop n dst in
       let z : n - 0 ≡ n = omega arith in
-      let c : copied ≡ taken ++ drop n dst = p ∙ ap (λ (k : ℕ). take k taken ++ drop k dst) taken_long ∙ ap (λ (l : List ℕ). l ++ drop n dst) (take_all n taken (omega (arith, taken_long))) in
+      let c : copied ≡ taken ++ drop n dst = ap (λ (l : List ℕ). l ++ drop n dst) (p ∙ ap (λ (j : ℕ). take j src) (sym z)) in
       let l : length copied ≡ length dst = ap length c ∙ length-append taken (drop n dst) ∙ omega (arith, taken_long, length-drop n dst) in
       let k : length copied - n ≡ length dst - length src = omega arith in
       q ∙ ap (λ (x : List ℕ). take n x ++ replicate (length copied - n) 0) c

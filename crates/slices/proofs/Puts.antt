@@ -6,7 +6,7 @@ use mathlib.Core.Path.{◌≡◌, sym, ap, ◌∙◌}
 use mathlib.Core.List.{List, ◌++◌, append_assoc, append-nil}
 use lib.ListN.{length, get_or, take, drop, length-append, length-drop, drop_of_length-le, get_or-append}
 use lib.Seq.{get_or-drop, get_or-take, get_or-append-add, take_all, take-length, length-take-le, take_at, drop_at, drop-drop}
-use borrow.Rule.Slice.PartMut.{put_mid, mid_of}
+use borrow.Rule.Slice.PartMut.{put_mid, mid_of, Post-is}
 use Rattle.slices.specs.Put.{put}
 
 -- what a copy into the part from i on leaves
@@ -16,6 +16,13 @@ unfolding put
 put_is d src l i h q =
     let e : length (drop i d) ≡ length d - i = length-drop i d in
     rw (q, take-length src, take_all (length d - i) (drop i d) (omega arith), drop_of_length-le (drop i d) {i = length d - i} (omega arith), append-nil, drop-drop)
+
+-- what a copy into the part from i on leaves, where the part is as long as what is copied
+pub put_part : (d src l : List ℕ) (i : ℕ) → l ≡ src → put_mid i (i + length src - i) d l ≡ put d i src
+unfolding put
+put_part d src l i e =
+    ap (λ (z : List ℕ). take i d ++ (l ++ z)) (Post-is i (i + length src) d (omega arith))
+    ∙ ap (λ (z : List ℕ). take i d ++ (z ++ drop (i + length src) d)) e
 
 pub length-put : (d src : List ℕ) (i : ℕ) → i + length src ≤ length d → length (put d i src) ≡ length d
 unfolding put

@@ -18,6 +18,5 @@ pub returns-in-NoPage : goal.returns-in-NoPage
 returns-in-NoPage c = search head_nowhere
 
 pub returns-else-twice : goal.returns-else-twice
-returns-else-twice c = let b = c in
-    head_data _ _ _ _ b.before.before.before.before.word_of.result b.before.before.type_size.result (search rules) (search rules) (search rules)
-    b.page-of.result _ (search rules) (search rules) (search rules) (search rules)
+returns-else-twice c = head_data _ _ _ _ c.word_of-n.result c.size_of-size.result (search rules) (search rules) (search rules)
+    c.page_of-found.result _ (search rules) (search rules) (search rules) (search rules)

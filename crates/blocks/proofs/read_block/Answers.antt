@@ -17,8 +17,7 @@ pub fill_own-filled-requires : goal.fill_own-filled-requires
 fill_own-filled-requires c = search page_below
 
 pub overflow_add-start : goal.overflow_add-start
-overflow_add-start c = let b = c in
-    let h : b.page.given.0.1.0 + c.filled-1.given.0.0 < length b.before.before.before.before.before.args.file.now = search bad_code_within in search rules
+overflow_add-start c = let h : c.in-Data.start + c.in-Malformed.i < length c.args.file.now = search bad_code_within in search rules
 
 pub returns-in-Bad : goal.returns-in-Bad
 returns-in-Bad c = search head_refuses

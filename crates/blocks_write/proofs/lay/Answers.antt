@@ -7,17 +7,16 @@ pub loop-i-init : goal.loop-i-init
 loop-i-init c = search laid_begin
 
 pub overflow_add-at : goal.overflow_add-at
-overflow_add-at c = let h = going_room _ _ _ _ _ _ c.loop-i.invariant _ c.count-n.ensures c.loop-i-test.true c.requires _ c.slot_at-slot.ensures _ c.least.ensures _ _ c.write_block-fit.ensures _ c.fit-1.given.1 in
+overflow_add-at c = let h = going_room _ _ _ _ _ _ c.loop-i.invariant _ c.count-n.ensures c.loop-i-test.true c.requires _ c.slot_at-slot.ensures _ c.least.ensures _ _ c.write_block-fit.ensures _ c.in-Length.is in
     search rules
 
 pub loop-i-preserved : goal.loop-i-preserved
-loop-i-preserved c = laid_more _ _ _ _ _ _ c.loop-i.invariant _ c.count-n.ensures c.loop-i-test.true c.requires _ c.slot_at-slot.ensures _ c.least.ensures _ _ c.write_block-fit.ensures _ c.fit-1.given.1
+loop-i-preserved c = laid_more _ _ _ _ _ _ c.loop-i.invariant _ c.count-n.ensures c.loop-i-test.true c.requires _ c.slot_at-slot.ensures _ c.least.ensures _ _ c.write_block-fit.ensures _ c.in-Length.is
 
 pub returns-in-TooShort : goal.returns-in-TooShort
-returns-in-TooShort c = let b = c in
-    going_over _ _ _ _ _ _ b.before.before.before.before.before.before.before.loop.invariant _ b.before.before.before.before.before.before.before.before.count.ensures b.before.before.before.before.before.before.loop-test.true
-    b.before.before.before.before.before.before.before.before.before.before.before.requires _ b.before.before.before.before.before.slot_at.ensures _ b.before.before.before.least.ensures _ _ b.write-block.ensures
-    c.enum_told-1.given.1 _ c.fill.ensures
+returns-in-TooShort c = going_over _ _ _ _ _ _ c.loop-i.invariant _ c.count-n.ensures c.loop-i-test.true
+    c.requires _ c.slot_at-slot.ensures _ c.least.ensures _ _ c.write_block-fit.ensures
+    c.in-TooShort.is _ c.fill.ensures
 
 pub returns : goal.returns
 returns c = search going_end

@@ -5,8 +5,7 @@ use borrow.Author.Rules.{rules}
 use Rattle.body_v1.proofs.unpack_body.Goals as goal
 
 pub overflow_add-place : goal.overflow_add-place
-overflow_add-place c = let s = c in
-    let h : c.i-1.given.0.0 < length s.args.src.now = search bad_code_before in search rules
+overflow_add-place c = let h : c.in-Malformed.i < length c.args.src.now = search bad_code_before in search rules
 
 pub returns-in-Good : goal.returns-in-Good
 returns-in-Good c = search body_whole

@@ -1,7 +1,7 @@
 use Rattle.clock.proofs.position.Goals as goal
 
 pub returns-in-K48 : goal.returns-in-K48
-returns-in-K48 c = rw (c.enum_told-1.given.1, c.less.ensures)
+returns-in-K48 c = rw (c.in-K48.is, c.less.ensures)
 
 pub returns-in-K128 : goal.returns-in-K128
-returns-in-K128 c = rw (c.enum_told-in-K128-1.given.1, c.less-in-K128.ensures)
+returns-in-K128 c = rw (c.in-K128.is, c.less-in-K128.ensures)

@@ -15,5 +15,4 @@ pub record_step-requires : goal.record_step-requires
 record_step-requires c = (search standing_few, search standing_room)
 
 pub returns-in-K128 : goal.returns-in-K128
-returns-in-K128 c = let s = c in
-    out_made _ _ _ _ _ s.requires _ c.enum_told-in-K128-1.given.1 c.if-m-eq1.false _ _ _ _ _ (search rules) c.byte_word.ensures c.byte_word-in-K128.ensures c.with_out_lem.ensures c.record_step.ensures
+returns-in-K128 c = out_made _ _ _ _ _ c.requires _ c.in-K128.is c.if-m-eq1.false _ _ _ _ _ (search rules) c.byte_word.ensures c.byte_word-in-K128.ensures c.with_out.ensures c.record_step.ensures

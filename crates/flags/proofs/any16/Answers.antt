@@ -10,4 +10,4 @@ pub loop-k-preserved : goal.loop-k-preserved
 loop-k-preserved c = none_more _ _ _ c.loop-k.invariant (search rules)
 
 pub returns : goal.returns
-returns c = none_all _ _ _ (search (rules, c.well-formed.0)) c.loop-k.invariant (search rules)
+returns c = none_all _ _ _ (search (rules, c.well_formed.0)) c.loop-k.invariant (search rules)

@@ -2,22 +2,22 @@ use Rattle.header.proofs.HeadSteps.{mode3_other}
 use Rattle.header.proofs.mode_v3.Goals as goal
 
 pub returns-in-0 : goal.returns-in-0
-returns-in-0 c = rw c.in-0.keys1
+returns-in-0 c = rw c.in-0.is
 
 pub returns-in-1 : goal.returns-in-1
-returns-in-1 c = rw c.in-0.keys2
+returns-in-1 c = rw c.in-1.is
 
 pub returns-in-3 : goal.returns-in-3
-returns-in-3 c = rw c.in-0.keys3
+returns-in-3 c = rw c.in-3.is
 
 pub returns-in-4 : goal.returns-in-4
-returns-in-4 c = rw c.in-0.keys4
+returns-in-4 c = rw c.in-4.is
 
 pub returns-in-5 : goal.returns-in-5
-returns-in-5 c = rw c.in-0.keys5
+returns-in-5 c = rw c.in-5.is
 
 pub returns-in-6 : goal.returns-in-6
-returns-in-6 c = rw c.in-0.keys6
+returns-in-6 c = rw c.in-6.is
 
 pub returns-in_default : goal.returns-in_default
 returns-in_default c = search mode3_other

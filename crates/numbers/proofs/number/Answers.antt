@@ -3,4 +3,4 @@ use Rattle.numbers.specs.Numbers.{number_of}
 use Rattle.numbers.proofs.number.Goals as goal
 
 pub returns-in-Refused : goal.returns-in-Refused
-returns-in-Refused c = c.refusal_number.ensures ∙ ap number_of (sym c.answer-1.given.1)
+returns-in-Refused c = c.refusal_number.ensures ∙ ap number_of (sym c.in-Refused.is)

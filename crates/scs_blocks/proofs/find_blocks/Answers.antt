@@ -16,9 +16,7 @@ pub returns-then-left-size : goal.returns-then-left-size
 returns-then-left-size c = search cut_data
 
 pub returns-then-is_there : goal.returns-then-is_there
-returns-then-is_there c = let b = c in
-    let l = b.before.before.before in
-    seen_twice _ _ _ _ l.before.before.before.loop.invariant (search rules) l.if1.false (search rules) _ b.before.size-at.ensures (search rules) _ c.part_of-part.ensures _
+returns-then-is_there c = seen_twice _ _ _ _ c.loop-place.invariant (search rules) c.if-number-eq0.false (search rules) _ c.size_at-size.ensures (search rules) _ c.part_of-part.ensures _
     c.is_there.ensures _ c.if-is_there.true c.in_block-then-is_there.ensures
 
 pub loop-place-preserved : goal.loop-place-preserved

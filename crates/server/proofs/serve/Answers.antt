@@ -24,13 +24,11 @@ pub loop-i-smaller : goal.loop-i-smaller
 loop-i-smaller c = omega arith
 
 pub loop-i-preserved : goal.loop-i-preserved
-loop-i-preserved c = let m = c in
-    let f = m.before.before.before.before.before.before in
-    let inv = f.before.before.loop.invariant in (
-      calls_go_on _ _ _ _ _ _ _ _ _ _ inv.0 f.before.loop-test.true f.call_at.ensures m.call_made.ensures.leaves,
-      m.call_made.auto.0 ∙ inv.1,
-      m.call_made.auto.1.0 ∙ inv.2,
-      m.call_made.auto.1.1.0 ∙ inv.3,
+loop-i-preserved c = let inv = c.loop-i.invariant in (
+      calls_go_on _ _ _ _ _ _ _ _ _ _ inv.0 c.loop-i-test.true c.call_at-call.ensures c.call_made-number.ensures.leaves,
+      c.call_made-number.auto.head ∙ inv.1,
+      c.call_made-number.auto.area ∙ inv.2,
+      c.call_made-number.auto.log ∙ inv.3,
     )
 
 pub shape_of-head : goal.shape_of-head
@@ -40,17 +38,16 @@ pub shape_of-area : goal.shape_of-area
 shape_of-area c = c.loop-i.invariant.2
 
 pub shape_of-log : goal.shape_of-log
-shape_of-log c = c.loop-i.invariant.3 ∙ c.snap_log_start.auto.0
+shape_of-log c = c.loop-i.invariant.3 ∙ c.snap_log_start.auto.log
 
 pub shape_of-numbers : goal.shape_of-numbers
-shape_of-numbers c = c.clear_from.auto.0 ∙ c.loop-i.invariant.0.long
+shape_of-numbers c = c.clear_from.auto.dst ∙ c.loop-i.invariant.0.long
 
 pub returns : goal.returns
-returns c = let t = c in
-    let n = t.before.before.call-count.ensures in
+returns c = let n = c.call_count-n.ensures in
     let start = c.snap_log_start.ensures in
     let head = c.slice_known-1.given in
     let area = c.slice_known-2-1.given in
     let calls = c.shared_slice_known-1.given in
     serves _ _ _ _ _ _ _ _ _ _ _ (λ j. omega (arith, head j)) (λ j. omega (arith, area j)) (λ j. omega (arith, calls j)) start.log_zero start.standing_0 start.total_0 n
-    (going_done _ _ _ _ _ _ _ _ t.before.loop.invariant.0 t.loop-test.false n c.clear_from.ensures)
+    (going_done _ _ _ _ _ _ _ _ c.loop-i.invariant.0 c.loop-i-test.false n c.clear_from.ensures)

@@ -1,6 +1,5 @@
-use Rattle.slices.proofs.Puts.{part_copied}
-use mathlib.Core.Path.{refl, ◌∙◌}
+use native.Mathlib.Nat.{add-sub_cancel_left}
 use Rattle.slices.proofs.part16.Goals as goal
 
 pub returns : goal.returns
-returns c = c.copy.ensures.1 ∙ part_copied 16 _ _ _ c.requires refl
+returns c = rw (c.copy_from_slice.ensures.after, add-sub_cancel_left)

@@ -11,7 +11,7 @@ pub returns-then-out-lt86 : goal.returns-then-out-lt86
 returns-then-out-lt86 c = search writes_front
 
 pub overflow_add-result : goal.overflow_add-result
-overflow_add-result c = let h : 86 + c.fit-1.given.0.0 ≤ length c.args.out.now = search blocks_room in search rules
+overflow_add-result c = let h : 86 + c.in-Length.n ≤ length c.args.out.now = search blocks_room in search rules
 
 pub returns-in-Length : goal.returns-in-Length
 returns-in-Length c = search writes_file

@@ -5,5 +5,5 @@ use borrow.Author.Rules.{rules}
 use Rattle.spectrum.proofs.Machine.pair.Goals as goal
 
 pub returns-else-p-lt12 : goal.returns-else-p-lt12
-returns-else-p-lt12 c = let n : length c.args.t1.pairs ≡ 12 = search (rules, c.well-formed.0) in
-    sym (get_or-eq_default c.args.t1.pairs 0 {n = c.args.p} (omega arith))
+returns-else-p-lt12 c = let n : length c.args.self.pairs ≡ 12 = search (rules, c.well_formed.0) in
+    sym (get_or-eq_default c.args.self.pairs 0 {n = c.args.p} (omega arith))

@@ -12,5 +12,5 @@ returns-then-p-lt12 c = refl
 
 pub returns-else-p-lt12 : goal.returns-else-p-lt12
 unfolding with_pair
-returns-else-p-lt12 c = let n : length c.args.t1.pairs ≡ 12 = search (rules, c.well-formed.0) in
-    rw (set_out c.args.t1.pairs c.args.p c.args.value (omega arith))
+returns-else-p-lt12 c = let n : length c.args.self.pairs ≡ 12 = search (rules, c.well_formed.0) in
+    rw (set_out c.args.self.pairs c.args.p c.args.value (omega arith))

@@ -1,7 +1,0 @@
-use Rattle.scs_write.proofs.hardware_and_size.Goals as goal
-
-pub returns-in-K48 : goal.returns-in-K48
-returns-in-K48 c = rw c.enum_told-1.given.1
-
-pub returns-in-K128 : goal.returns-in-K128
-returns-in-K128 c = rw c.enum_told-in-K128-1.given.1
