@@ -35,7 +35,7 @@ help:
 	@echo 'make fuzz SECONDS=n      the fuzzer, library against Rust'
 	@echo 'make soak SECONDS=n      four areas in turn, every byte that comes out checked'
 	@echo 'make fmt                 the layout of Rattle files'
-	@echo 'make clean               removes target/'
+	@echo 'make clean               removes target/ and what rt keeps in crates/*/out'
 
 demo:
 	@bash tools/demo
@@ -46,8 +46,8 @@ test:
 lib: $(LIB)
 
 # Proved, then compiled.
-$(LIB): crates.txt $(shell find crates -name '*.rt' -o -name '*.antt')
-	rt staticlib snapshot
+$(LIB): crates.txt $(shell find crates \( -name '*.rt' -o -name '*.antt' \) -not -path '*/out/*')
+	bash tools/archive snapshot
 
 tool: target/snapshot
 
@@ -104,7 +104,7 @@ soak:
 	@bash tests/soak/run $(SECONDS)
 
 fmt:
-	@rt fmt
+	@for crate in crates/*/; do (cd "$$crate" && rt fmt) || exit; done
 
 clean:
-	rm -rf target
+	rm -rf target crates/*/out

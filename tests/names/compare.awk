@@ -1,9 +1,12 @@
 # The file of shared names, then the index: LANGUAGE, FILE, OWNER, NAME. Two declarations are one fault where they are spelt alike in two
-# files, or differently in two crates or programs; a file of proofs/ may have the name of the file of specs/ beside it.
+# files, or differently in two crates or programs; a file of proofs/ may have the name of the file of specs/ beside it,
+# and a definition or a law that of a function of its crate.
 function key(name) { name = tolower(name); gsub(/[-_]/, "", name); return name }
 function add(group,    k) { k = group "/" key($4); n[k]++; file[k, n[k]] = $2; owner[k, n[k]] = $3; name[k, n[k]] = $4 }
 function clash(k, i, j) {
     if (file[k, i] == file[k, j]) return 0
+    # a function and the definition, or the law, that is named after it in its own crate
+    if ((file[k, i] ~ /\.rt$/) != (file[k, j] ~ /\.rt$/) && owner[k, i] == owner[k, j]) return 0
     if (name[k, i] != name[k, j]) return owner[k, i] != owner[k, j]
     return k !~ /^file\// || owner[k, i] != owner[k, j]
 }

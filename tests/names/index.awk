@@ -7,7 +7,7 @@ FNR == 1 {
     owner = part[1] == "crates" ? part[2] : part[1] == "tests" ? "tests/" part[2] : part[1]
     type = ""
     file = part[parts]
-    if (sub(/\.antt$/, "", file) && file !~ /^(Lib|Inner|Theorems|Proof)$/) say("file", file)
+    if (sub(/\.antt$/, "", file) && file !~ /^(Lib|Inner|Theorems)$/ && FILENAME !~ /\/proofs\/.+\/(Answers|Invariants|Proof)\.antt$/) say("file", file)
 }
 /^ *(\/\/|\/\*|\*)/ { next }
 FILENAME ~ /\.rt$/ {

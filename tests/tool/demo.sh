@@ -36,16 +36,16 @@ small_tree() {
     mkdir -p "$work/tree/crates" "$work/tree/tests" "$work/tree/bin"
     cp -r Makefile tools include examples samples "$work/tree"
     cp tests/need.sh "$work/tree/tests"
-    printf '%s\n' 'low: bytes' 'left: low' 'beside: low' 'right: low # last' 'snapshot: left right' >"$work/tree/crates.txt"
+    mkdir "$work/tree/crates/snapshot_c"
+    printf '%s\n' 'low: bytes' 'left: low' 'beside: low' 'right: low # last' 'snapshot_c staticlib: left right' >"$work/tree/crates.txt"
     cat >"$work/tree/bin/rt" <<RT
 #!/bin/sh
-[ "\$*" = "staticlib snapshot" ] || exit 2
-printf 'fn low::f: proved\nrt: low proved (7 s)\nrt: left proved (unchanged since it was last proved)\n' >&2
+[ "\$*" = lib ] || exit 2
+printf 'crate low: modules loaded=0 checked=9\nlogic=proved functions=1\ncrate left: modules loaded=9 checked=0\nlogic=proved functions=2\n'
 $1
-printf 'rt: right proved (12 s)\n' >&2
-mkdir -p target/staticlib
-cp '$PWD/$lib' target/staticlib
-printf 'logic=proved functions=9\nrt: target/staticlib/libsnapshot.a has the functions of snapshot\n'
+printf 'crate right: modules loaded=0 checked=9\nlogic=proved functions=3\ncrate snapshot_c: modules loaded=0 checked=9\nlogic=proved functions=9\n'
+mkdir -p out
+cp '$PWD/$lib' out/libsnapshot_c.a
 RT
     chmod 755 "$work/tree/bin/rt"
 }

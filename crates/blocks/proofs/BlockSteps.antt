@@ -24,12 +24,12 @@ use Rattle.numbers.specs.Faults.{fault_in, length_fault, missing}
 use Rattle.block_pages.specs.Numbered.{pages_seen, pages_due}
 use Rattle.block_read.specs.declared.BlockHead.{BlockHead}
 use Rattle.block_read.specs.declared.BlockHead.TheVariants.{Bad, Data}
-use Rattle.block_read.specs.Block.{refused, brought, contents, ordinal, page_from}
+use Rattle.block_read.specs.Block.{refused, contents, ordinal}
 use Rattle.block_read.proofs.Answers.{good_is, malformed_is, wrong_is}
-use Rattle.block_read.specs.Inner.{Fills, head_at, Refuses}
+use Rattle.block_read.specs.Inner.{Fills, head_at}
 use Rattle.block_read.proofs.BlockHeads.{BlockAt, HeadSays, head_says}
 use Rattle.blocks.specs.declared.BlockStep.{BlockStep}
-use Rattle.blocks.specs.declared.BlockStep.TheVariants.{Failed, Next}
+use Rattle.blocks.specs.declared.BlockStep.TheVariants.{Failed}
 use Rattle.blocks.specs.Inner.{FillsOwn, Brings, StepSays}
 
 pub found_inside : (plain : Bool) (body : List ℕ) (i : ℕ) → contents plain body ≡ malformed i → i < length body

@@ -1,9 +1,8 @@
 -- Explaining and reading end alike: both by the one parse of the file.
 use Prim.Native.Nat.{ℕ}
-use mathlib.Core.Path.{◌≡◌, refl, sym, ap, ◌∙◌}
+use mathlib.Core.Path.{◌≡◌, sym, ap, ◌∙◌}
 use mathlib.Core.List.{List}
 use Rattle.numbers.specs.Numbers.{number_of}
-use Rattle.numbers.specs.declared.Answer.{Answer}
 use Rattle.z80read.specs.Read.{read_of}
 use Rattle.z80explain.specs.Explain.{explain_of}
 use Rattle.z80explain.proofs.Theorems as explain

@@ -1,7 +1,6 @@
 -- Demand 2 for SCS is false of each empty version: what is written of a 128K machine and an area of zeros does not come back.
 use Prim.Native.Nat.{ℕ, ◌≤◌}
 use mathlib.Core.Path.{◌≡◌, refl, sym, ap, ◌∙◌}
-use mathlib.Core.Bool.{true}
 use mathlib.Core.List.{List, ◌++◌}
 use native.Mathlib.Omega.{arith}
 use lib.ListN.{length, take}
@@ -9,7 +8,6 @@ use Rattle.slices.specs.Blank.{blank}
 use Rattle.pages.specs.declared.Model.TheVariants.{K128}
 use Rattle.spectrum.specs.declared.Machine.{Machine}
 use Rattle.spectrum.specs.Machine.{with_out}
-use Rattle.spectrum.specs.Valid.{Typed, valid_of}
 use Rattle.numbers.specs.declared.Refusal.TheVariants.{FileShort, ScsMemoryNotFirst}
 use Rattle.numbers.specs.declared.Answer.TheVariants.{Refused}
 use Rattle.numbers.proofs.Numbers.{refused_not}

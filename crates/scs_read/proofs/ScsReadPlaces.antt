@@ -9,7 +9,6 @@ use Rattle.slices.proofs.Chosen.{either}
 use Rattle.pages.specs.declared.Model.{Model}
 use Rattle.numbers.specs.Numbers.{refusal_number}
 use Rattle.numbers.proofs.FaultPlaces.{nowhere}
-use Rattle.z80read.specs.Read.{ReadResult}
 use Rattle.z80read.proofs.ReadPlaces.{ResultPlaced}
 use Rattle.scs_blocks.specs.declared.ScsSeen.{ScsSeen}
 use Rattle.scs_blocks.specs.declared.ScsFound.{ScsFound}

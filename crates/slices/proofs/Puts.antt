@@ -18,9 +18,9 @@ put_is d src l i h q =
     rw (q, take-length src, take_all (length d - i) (drop i d) (omega arith), drop_of_length-le (drop i d) {i = length d - i} (omega arith), append-nil, drop-drop)
 
 -- what a copy into the part from i on leaves, where the part is as long as what is copied
-pub put_part : (d src l : List ℕ) (i : ℕ) → l ≡ src → put_mid i (i + length src - i) d l ≡ put d i src
+pub put_span : (d src l : List ℕ) (i : ℕ) → l ≡ src → put_mid i (i + length src - i) d l ≡ put d i src
 unfolding put
-put_part d src l i e =
+put_span d src l i e =
     ap (λ (z : List ℕ). take i d ++ (l ++ z)) (Post-is i (i + length src) d (omega arith))
     ∙ ap (λ (z : List ℕ). take i d ++ (z ++ drop (i + length src) d)) e
 

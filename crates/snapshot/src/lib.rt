@@ -15,29 +15,21 @@ ghost use Rattle.version_number.specs.Version.{library_version};
 use five_calls::Call;
 
 // 10000 * major + 100 * minor + patch.
-#[unsafe(no_mangle)]
-pub extern "C" fn snap_version() -> u32
+pub fn snap_version() -> u32
     ensures { result ≡ library_version }
 {
     version_number::current()
 }
 
 // A .Z80 file into an area of 131,072 bytes and a header of 86; the offset in the file that is named with the number, or 0.
-#[unsafe(no_mangle)]
-pub extern "C" fn snap_z80_read(
-    file: &[u8],
-    area: &mut [u8],
-    head: &mut [u8],
-    offset: &mut u64,
-) -> u32
+pub fn snap_z80_read(file: &[u8], area: &mut [u8], head: &mut [u8], offset: &mut u64) -> u32
     ensures { ReadsBytes (read_of_bytes file.now (length area.old) (length head.old)) result offset.new area.new head.new }
 {
     file_bytes::read(file, area, head, offset)
 }
 
 // Why a .Z80 file is refused: the number and the offset of reading, the block from 1 on, what was found and what is due.
-#[unsafe(no_mangle)]
-pub extern "C" fn snap_z80_explain(
+pub fn snap_z80_explain(
     file: &[u8],
     offset: &mut u64,
     block: &mut u64,
@@ -50,37 +42,28 @@ pub extern "C" fn snap_z80_explain(
 }
 
 // A header and its area into the one v3 file.
-#[unsafe(no_mangle)]
-pub extern "C" fn snap_z80_write(head: &[u8], area: &[u8], out: &mut [u8], size: &mut u64) -> u32
+pub fn snap_z80_write(head: &[u8], area: &[u8], out: &mut [u8], size: &mut u64) -> u32
     ensures { WritesBytes (write_of_bytes head.now area.now (length out.old)) result size.new out.new }
 {
     file_bytes::write(head, area, out, size)
 }
 
 // An SCS file into an area of 131,072 bytes and a header of 86; the offset in the file that is named with the number, or 0.
-#[unsafe(no_mangle)]
-pub extern "C" fn snap_scs_read(
-    file: &[u8],
-    area: &mut [u8],
-    head: &mut [u8],
-    offset: &mut u64,
-) -> u32
+pub fn snap_scs_read(file: &[u8], area: &mut [u8], head: &mut [u8], offset: &mut u64) -> u32
     ensures { ReadsBytes (scs_read_of_bytes file.now (length area.old) (length head.old)) result offset.new area.new head.new }
 {
     scs_bytes::read(file, area, head, offset)
 }
 
 // A header and its area into the one SCS file.
-#[unsafe(no_mangle)]
-pub extern "C" fn snap_scs_write(head: &[u8], area: &[u8], out: &mut [u8], size: &mut u64) -> u32
+pub fn snap_scs_write(head: &[u8], area: &[u8], out: &mut [u8], size: &mut u64) -> u32
     ensures { WritesBytes (scs_write_of_bytes head.now area.now (length out.old)) result size.new out.new }
 {
     scs_bytes::write(head, area, out, size)
 }
 
 // Where a page lies: in the ROM or in the area, from which byte on, and how long.
-#[unsafe(no_mangle)]
-pub extern "C" fn snap_view(
+pub fn snap_view(
     head: &[u8],
     rom: &[u8],
     area: &[u8],
@@ -95,24 +78,21 @@ pub extern "C" fn snap_view(
 }
 
 // Which model, and what is attached to it.
-#[unsafe(no_mangle)]
-pub extern "C" fn snap_model(head: &[u8], kind: &mut u8, attachment: &mut u8) -> u32
+pub fn snap_model(head: &[u8], kind: &mut u8, attachment: &mut u8) -> u32
     ensures { TellsModel (model_of head.now) result kind.new attachment.new }
 {
     machine_bytes::model(head, kind, attachment)
 }
 
 // A register pair's value.
-#[unsafe(no_mangle)]
-pub extern "C" fn snap_pair(head: &[u8], number: u8, value: &mut u16) -> u32
+pub fn snap_pair(head: &[u8], number: u8, value: &mut u16) -> u32
     ensures { TellsPair (pair_of head.now number) result value.new }
 {
     machine_bytes::pair(head, number, value)
 }
 
 // Where an address leads as paging is now.
-#[unsafe(no_mangle)]
-pub extern "C" fn snap_place(
+pub fn snap_place(
     head: &[u8],
     address: u16,
     in_rom: &mut u8,
@@ -125,16 +105,14 @@ pub extern "C" fn snap_place(
 }
 
 // A log just started.
-#[unsafe(no_mangle)]
-pub extern "C" fn snap_log_start(log: &mut [u8], standing: &mut u64, total: &mut u64) -> u32
+pub fn snap_log_start(log: &mut [u8], standing: &mut u64, total: &mut u64) -> u32
     ensures { LogStarts (length log.old) result log.new standing.new total.new }
 {
     journal_bytes::start(log, standing, total)
 }
 
 // A byte at an address corrected.
-#[unsafe(no_mangle)]
-pub extern "C" fn snap_correct_byte(
+pub fn snap_correct_byte(
     head: &mut [u8],
     area: &mut [u8],
     log: &mut [u8],
@@ -149,8 +127,7 @@ pub extern "C" fn snap_correct_byte(
 }
 
 // A register pair corrected.
-#[unsafe(no_mangle)]
-pub extern "C" fn snap_correct_pair(
+pub fn snap_correct_pair(
     head: &mut [u8],
     area: &mut [u8],
     log: &mut [u8],
@@ -165,8 +142,7 @@ pub extern "C" fn snap_correct_pair(
 }
 
 // The last OUT to 7FFD corrected.
-#[unsafe(no_mangle)]
-pub extern "C" fn snap_correct_out(
+pub fn snap_correct_out(
     head: &mut [u8],
     area: &mut [u8],
     log: &mut [u8],
@@ -180,8 +156,7 @@ pub extern "C" fn snap_correct_out(
 }
 
 // The last standing correction taken back.
-#[unsafe(no_mangle)]
-pub extern "C" fn snap_undo(
+pub fn snap_undo(
     head: &mut [u8],
     area: &mut [u8],
     log: &mut [u8],
@@ -194,8 +169,7 @@ pub extern "C" fn snap_undo(
 }
 
 // The first waiting correction made again.
-#[unsafe(no_mangle)]
-pub extern "C" fn snap_redo(
+pub fn snap_redo(
     head: &mut [u8],
     area: &mut [u8],
     log: &mut [u8],

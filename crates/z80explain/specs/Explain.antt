@@ -1,7 +1,7 @@
 -- Document 02, A3: "A new call takes a .Z80 file, no area, and gives the number, the offset, the block's ordinal from 1 .., and two figures, found
 -- and due." Header, blocks and v1 body are refused here by the definitions that reading is made of; which figures each number has is in
 -- `numbers/specs/Faults`.
-use Rattle.std.specs.Prelude.{ℕ, ◌≡◌, List}
+use Rattle.std.specs.Prelude.{ℕ, List}
 use Rattle.slices.specs.Blank.{blank}
 use Rattle.numbers.specs.declared.FileFault.{FileFault}
 use Rattle.numbers.specs.declared.Answer.TheVariants.{Accepted, Refused}

@@ -1,4 +1,3 @@
-use Prim.Native.Nat.{◌-◌}
 use Rattle.blocks.proofs.BlocksSoFar.{blocks_begin, blocks_more, going_stop, going_all, going_missing, next_page, next_falls}
 use borrow.Author.Rules.{rules}
 use Rattle.blocks.proofs.read_blocks.Goals as goal

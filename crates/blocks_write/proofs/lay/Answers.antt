@@ -1,4 +1,3 @@
-use Prim.Native.Nat.{◌-◌}
 use borrow.Author.Rules.{rules}
 use Rattle.blocks_write.proofs.LaidSoFar.{laid_begin, going_room, laid_more, going_over, going_end}
 use Rattle.blocks_write.proofs.lay.Goals as goal

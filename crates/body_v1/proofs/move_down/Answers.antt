@@ -1,4 +1,3 @@
-use Prim.Native.Nat.{◌-◌}
 use Rattle.body_v1.proofs.BodyMoves.{shifted_none, shifted_more, shifted_all}
 use Rattle.body_v1.proofs.move_down.Goals as goal
 

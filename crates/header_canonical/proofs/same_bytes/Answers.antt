@@ -1,5 +1,4 @@
 use Rattle.header_canonical.proofs.Compared.{compared_none, compared_more, compared_all, other_length}
-use Prim.Native.Nat.{◌-◌}
 use borrow.Author.Rules.{rules}
 use Rattle.header_canonical.proofs.same_bytes.Goals as goal
 

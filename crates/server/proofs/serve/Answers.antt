@@ -1,4 +1,3 @@
-use Prim.Native.Nat.{◌-◌}
 use mathlib.Core.Path.{refl, ◌∙◌}
 use native.Mathlib.Omega.{arith}
 use Rattle.server.proofs.CallsSoFar.{calls_begin, calls_go_on, going_done, serves, number_fits}
@@ -25,11 +24,11 @@ loop-i-smaller c = omega arith
 
 pub loop-i-preserved : goal.loop-i-preserved
 loop-i-preserved c = let inv = c.loop-i.invariant in (
-      calls_go_on _ _ _ _ _ _ _ _ _ _ inv.0 c.loop-i-test.true c.call_at-call.ensures c.call_made-number.ensures.leaves,
-      c.call_made-number.auto.head ∙ inv.1,
-      c.call_made-number.auto.area ∙ inv.2,
-      c.call_made-number.auto.log ∙ inv.3,
-    )
+  calls_go_on _ _ _ _ _ _ _ _ _ _ inv.0 c.loop-i-test.true c.call_at-call.ensures c.call_made-number.ensures.leaves,
+  c.call_made-number.auto.head ∙ inv.1,
+  c.call_made-number.auto.area ∙ inv.2,
+  c.call_made-number.auto.log ∙ inv.3,
+)
 
 pub shape_of-head : goal.shape_of-head
 shape_of-head c = c.loop-i.invariant.1

@@ -1,5 +1,4 @@
 use Rattle.spectrum.proofs.Zeros.{looked_none, looked_more, looked_all}
-use Prim.Native.Nat.{◌-◌}
 use Rattle.spectrum.proofs.silent.Goals as goal
 
 pub loop-i-init : goal.loop-i-init
