@@ -69,6 +69,7 @@ pub fn check(stored: &StoredFile) {
     for page in stored.pages() {
         let mut code = packed(page);
         let length = code.len();
+        assert_eq!(ffi_packing::packed_len(page), length as u64);
         code.resize(ROOM, 0);
         for (rubbish, (_, pack)) in (1..).zip(PACKERS) {
             let mut part = vec![rubbish; ROOM];

@@ -26,6 +26,7 @@ mod c {
             dst_len: usize,
             length: *mut u64,
         ) -> u32;
+        pub fn packing_packed_len(src: *const u8, src_len: usize) -> u64;
     }
 }
 
@@ -47,4 +48,10 @@ pub fn pack(src: &[u8], dst: &mut [u8], length: &mut u64) -> u32 {
     let (to, room) = (dst.as_mut_ptr(), dst.len());
     // SAFETY: the slices and `length` are valid and do not overlap.
     unsafe { c::packing_pack(src.as_ptr(), src.len(), to, room, length) }
+}
+
+/// The packed length alone.
+pub fn packed_len(src: &[u8]) -> u64 {
+    // SAFETY: the slice is valid for its length.
+    unsafe { c::packing_packed_len(src.as_ptr(), src.len()) }
 }

@@ -16,7 +16,6 @@ mod c {
             size: *mut u64,
             taken: *mut u64,
         ) -> u32;
-        pub fn packing_packed_len(src: *const u8, src_len: usize) -> u64;
     }
 }
 
@@ -29,12 +28,6 @@ pub fn step(src: &[u8], at: u64, code: &mut [u8], size: &mut u64, taken: &mut u6
     let (to, room) = (code.as_mut_ptr(), code.len());
     // SAFETY: the slices and both numbers are valid and do not overlap.
     unsafe { c::packing_step(src.as_ptr(), src.len(), at, to, room, size, taken) }
-}
-
-/// The length that all steps come to, alone.
-pub fn packed_len(src: &[u8]) -> u64 {
-    // SAFETY: the slice is valid for its length.
-    unsafe { c::packing_packed_len(src.as_ptr(), src.len()) }
 }
 
 /// One step after another, which must come to the end of the data exactly.

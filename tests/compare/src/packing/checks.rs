@@ -189,7 +189,7 @@ impl PackingChecker {
         group.inputs += 1;
         let code = packed(src);
         let source = LentPart::holding(src, self.fills.word());
-        let length = ffi_step::packed_len(source.part());
+        let length = ffi_packing::packed_len(source.part());
         if length != code.len() as u64 {
             let wrong = format!("{length}, should be {}", code.len());
             return Err(format!("packed length of {}: {wrong}", hex(src)));

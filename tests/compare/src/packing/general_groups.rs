@@ -1,8 +1,7 @@
 //! The examples of the rules, round trips, and independence of what stood before.
 
 use super::checks::PackingChecker;
-use crate::ffi_packing::{pack, unpack, would_unpack};
-use crate::ffi_step::packed_len;
+use crate::ffi_packing::{pack, packed_len, unpack, would_unpack};
 use compare::lent::LentPart;
 use compare::pack_examples::PACK_EXAMPLES;
 use compare::report::{hex, Group, Outcome};

@@ -2,7 +2,7 @@
 
 use super::checks::PackingChecker;
 use super::{list_of_runs, lists, random_list};
-use crate::ffi_step;
+use crate::ffi_packing;
 use compare::report::{hex, Group, Outcome};
 use reference::memory::{images, Rng, MEMORY, PAGE};
 use reference::packing::{packed, ED};
@@ -82,7 +82,7 @@ pub fn longest_page(group: &mut Group, check: &mut PackingChecker, rng: &mut Rng
     let mut worst = [ED, ED, 0x00].repeat(5461);
     worst.push(0x00);
     check.pack(group, &worst, &[LONGEST_PAGE, PAGE])?;
-    if ffi_step::packed_len(&worst) != LONGEST_PAGE as u64 {
+    if ffi_packing::packed_len(&worst) != LONGEST_PAGE as u64 {
         return Err(format!("not {LONGEST_PAGE}: {}", hex(&worst)));
     }
     let mut pages: Vec<Vec<u8>> = Vec::new();
@@ -101,7 +101,7 @@ pub fn longest_page(group: &mut Group, check: &mut PackingChecker, rng: &mut Rng
     }
     for page in pages {
         check.pack(group, &page, &[LONGEST_PAGE])?;
-        let length = ffi_step::packed_len(&page) as usize;
+        let length = ffi_packing::packed_len(&page) as usize;
         if length > LONGEST_PAGE || length != packed(&page).len() {
             return Err(format!("packed length {length} of {}", hex(&page)));
         }
