@@ -12,7 +12,7 @@ use borrow.Rule.Slice.PartMut.{put_mid}
 use Rattle.slices.specs.Put.{put}
 use Rattle.slices.proofs.Chosen.{either}
 use Rattle.packed.specs.Packed.{Found, malformed, bytes}
-use Rattle.packed.specs.Packed.Promise.{bad_inside}
+use Rattle.packed.proofs.Enough.{bad_inside}
 use Rattle.packed.specs.Unpacking.{Unpacks, answer_of, left_by}
 use Rattle.packed.specs.declared.Unpacked.{Unpacked}
 use Rattle.packed.specs.declared.Unpacked.TheVariants.{Good, WrongLength, Malformed}

@@ -13,7 +13,7 @@ use Rattle.slices.specs.Put.{put}
 use Rattle.slices.specs.Blank.{blank}
 use Rattle.slices.proofs.Chosen.{same_is, same_true}
 use Rattle.packed.specs.Packed.{Found, malformed, bytes, unpacked}
-use Rattle.packed.specs.Packed.Promise.{bad_inside}
+use Rattle.packed.proofs.Enough.{bad_inside}
 use Rattle.packed.specs.Unpacking.{length_counted, answer_of}
 use Rattle.packed.specs.declared.Unpacked.{Unpacked}
 use Rattle.packed.specs.declared.Unpacked.TheVariants.{Good, WrongLength, Malformed}

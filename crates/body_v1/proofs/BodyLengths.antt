@@ -9,7 +9,7 @@ use lib.Dec.{eqb}
 use lib.ListN.{length, take, length-take}
 use Rattle.slices.specs.Choose.{choose}
 use Rattle.packed.specs.Packed.{Found, malformed, bytes, unpacked}
-use Rattle.packed.specs.Packed.Promise.{unpacked_long}
+use Rattle.packed.proofs.Enough.{unpacked_long}
 use Rattle.packed.specs.Unpacking.{length_counted}
 use Rattle.numbers.specs.declared.FileFault.{FileFault}
 use Rattle.numbers.specs.Faults.{fault_in, length_fault}

@@ -8,7 +8,7 @@ use lib.Dec.{eqb}
 use lib.ListN.{length, take, length-take}
 use Rattle.slices.proofs.Chosen.{either}
 use Rattle.packed.specs.Packed.{Found, malformed, bytes, unpacked}
-use Rattle.packed.specs.Packed.Promise.{bad_inside}
+use Rattle.packed.proofs.Enough.{bad_inside}
 use Rattle.packed.specs.Unpacking.{length_counted}
 use Rattle.numbers.proofs.FaultPlaces.{somewhere, where_it_ends, in_a_block, of_a_length}
 use Rattle.blocks.proofs.BlockPlaces.{BodyPlaced}

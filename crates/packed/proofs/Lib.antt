@@ -1,2 +1,4 @@
 pub mod Frame
+pub mod Backs
+pub mod Enough
 pub mod Theorems

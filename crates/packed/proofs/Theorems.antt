@@ -1,5 +1,7 @@
 -- The one value of the record of theorems.
-use Rattle.packed.specs.Packed.Promise.{unpacked_packed, packed_short, page_short, unpacked_long, bad_inside}
+use Rattle.packed.specs.Packed.Promise.{packed_short, page_short}
+use Rattle.packed.proofs.Backs.{unpacked_packed}
+use Rattle.packed.proofs.Enough.{unpacked_long, bad_inside}
 use Rattle.packed.specs.Packed.Examples.{longest, mixed_packed, examples}
 use Rattle.packed.specs.Theorems.{Theorems}
 

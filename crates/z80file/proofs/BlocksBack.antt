@@ -13,7 +13,7 @@ use Rattle.slices.specs.Bytes.{word_at}
 use Rattle.slices.specs.Put.{put}
 use Rattle.slices.specs.Blank.{blank}
 use Rattle.packed.specs.Packed.{bytes, packed}
-use Rattle.packed.specs.Packed.Promise.{unpacked_packed}
+use Rattle.packed.proofs.Backs.{unpacked_packed}
 use Rattle.pages.specs.declared.Model.{Model}
 use Rattle.pages.specs.declared.Model.TheVariants.{K48, K128}
 use Rattle.numbers.specs.Faults.{missing}

@@ -1,4 +1,3 @@
-use Prim.Native.Nat.{◌-◌}
 use Rattle.packed.proofs.Frame.{frame_from}
 use Rattle.pack_tail.proofs.PackSteps.{again_coded, again_plain, again_two, again_last, short_coded, short_plain, short_two, short_last, packed_all}
 use borrow.Author.Rules.{rules}

@@ -1,4 +1,3 @@
-use Prim.Native.Nat.{◌-◌}
 use Rattle.runs.proofs.RunBlocks.{run_blocks_none, run_blocks_more, run_blocks_stop, run_blocks_full}
 use Rattle.runs.proofs.run_at.Goals as goal
 

@@ -1,5 +1,4 @@
 use Rattle.runs.proofs.RunLength.{running_one, running_more, run_stops, run_ends, run_full}
-use Prim.Native.Nat.{◌-◌}
 use Rattle.runs.proofs.run_bytes.Goals as goal
 
 pub loop-n-init : goal.loop-n-init

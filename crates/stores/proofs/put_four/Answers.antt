@@ -1,5 +1,4 @@
 use Rattle.stores.proofs.StoredBytes.{put_4}
-use Prim.Native.Nat.{◌-◌}
 use native.Mathlib.Omega.{arith}
 use lib.ListN.{length-set}
 use Rattle.stores.proofs.put_four.Goals as goal

@@ -1,5 +1,4 @@
 use Rattle.stores.proofs.StoredBytes.{put_2}
-use Prim.Native.Nat.{◌-◌}
 use native.Mathlib.Omega.{arith}
 use lib.ListN.{length-set}
 use Rattle.stores.proofs.put_two.Goals as goal

@@ -1,4 +1,3 @@
-use Prim.Native.Nat.{◌-◌}
 use Rattle.flags.proofs.Places.{flagged_none, flagged_more, flagged_all}
 use Rattle.stretches.proofs.stops.Goals as goal
 

@@ -1,0 +1,3 @@
+pub mod EachStep
+pub mod StepPlaces
+pub mod Theorems

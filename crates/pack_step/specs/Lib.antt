@@ -1,0 +1,3 @@
+pub mod PackingSteps
+pub mod Stepping
+pub mod Theorems
