@@ -5,4 +5,5 @@ pub mod File
 pub mod Cases
 pub mod Sample
 pub mod RefutedFiles
+pub mod FilesHold
 pub mod Theorems
