@@ -23,7 +23,7 @@ TO = $(DESTDIR)$(PREFIX)
 .PHONY: help demo test lib tool examples install uninstall samples bench fuzz soak fmt clean
 
 help:
-	@echo 'make demo                sets up and shows the main job; five minutes at first'
+	@echo 'make demo                sets up and shows the main job; half an hour at first'
 	@echo 'make test                the gate: proves everything, then runs and compares'
 	@echo 'make lib                 the library for C, proved and then compiled'
 	@echo 'make tool                the library and the tool'

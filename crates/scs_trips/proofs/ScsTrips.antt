@@ -81,12 +81,12 @@ module _ (m : Machine) (head area : List ℕ) (n w size : ℕ) (out : List ℕ) 
       let o : scs_write_of_bytes head area n ≡ written_in_bytes (scs_written_of m area n) = scs_write_as m head area n (decoded_back m head f) in
       p.size ∙ ap (λ (x : WriteBytes). x.size) o ∙ sized (number_0 _ (sym (ap (λ (x : WriteBytes). x.answer) o) ∙ sym p.answer ∙ e))
 
-pub scs_writes_then_reads : (head area : List ℕ) (n k l w r size place : ℕ) (out back-area back_head : List ℕ) → WritesBytes (scs_write_of_bytes head area n) w size out
-    → ReadsBytes (scs_read_of_bytes (take (size - 0) (drop 0 out)) k l) r place back-area back_head
-    → ScsWritesThenReads head area n k l (record { written = w; read = r }) out size place back-area back_head
-scs_writes_then_reads head area n k l w r size place out back-area back_head p g =
+pub scs_writes_then_reads : (head area : List ℕ) (n k l w r size place : ℕ) (out back_area back_head : List ℕ) → WritesBytes (scs_write_of_bytes head area n) w size out
+    → ReadsBytes (scs_read_of_bytes (take (size - 0) (drop 0 out)) k l) r place back_area back_head
+    → ScsWritesThenReads head area n k l (record { written = w; read = r }) out size place back_area back_head
+scs_writes_then_reads head area n k l w r size place out back_area back_head p g =
     let z : size - 0 ≡ size = omega arith in
-    let q : ReadsBytes (scs_read_of_bytes (take size out) k l) r place back-area back_head = subst (λ (i : ℕ). ReadsBytes (scs_read_of_bytes (take i out) k l) r place back-area back_head) z g in
+    let q : ReadsBytes (scs_read_of_bytes (take size out) k l) r place back_area back_head = subst (λ (i : ℕ). ReadsBytes (scs_read_of_bytes (take i out) k l) r place back_area back_head) z g in
     record {
       first = p;
       then_read = q;

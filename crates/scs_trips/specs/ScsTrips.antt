@@ -10,20 +10,20 @@ use Rattle.scs_bytes.specs.ScsBytes.{scs_read_of_bytes, scs_write_of_bytes}
 use Rattle.server_trips.specs.declared.Trip.{Trip}
 
 -- both numbers are 0, no place is named; the area came back, and the header of what SCS keeps of the machine
-pub record CameBackKept (m : Machine) (area : List ℕ) (r : Trip) (place : ℕ) (back-area back_head : List ℕ) : Type 0 where
+pub record CameBackKept (m : Machine) (area : List ℕ) (r : Trip) (place : ℕ) (back_area back_head : List ℕ) : Type 0 where
   pub written : r.written ≡ 0
   pub read : r.read ≡ 0
   pub nowhere : place ≡ 0
-  pub area_same : back-area ≡ area
+  pub area_same : back_area ≡ area
   pub head_kept : back_head ≡ header_of (scs_keeps m)
 
 -- The promise of `write_then_read_scs`, into an output of n bytes, a second area of k and a second header of l: on every input what the write,
 -- and the read of what it wrote, come to; from the header of any valid machine and a clean area, with room for the file, all that SCS keeps
 -- comes back. The file has 88 bytes and the memory.
-pub record ScsWritesThenReads (head area : List ℕ) (n k l : ℕ) (r : Trip) (out : List ℕ) (size place : ℕ) (back-area back_head : List ℕ) : Type 0 where
+pub record ScsWritesThenReads (head area : List ℕ) (n k l : ℕ) (r : Trip) (out : List ℕ) (size place : ℕ) (back_area back_head : List ℕ) : Type 0 where
   pub first : WritesBytes (scs_write_of_bytes head area n) r.written size out
-  pub then_read : ReadsBytes (scs_read_of_bytes (take size out) k l) r.read place back-area back_head
-  pub back : (m : Machine) → HeaderFor m head → Clean m.model area → 88 + memory_size m.model ≤ n → k ≡ 131072 → l ≡ 86 → CameBackKept m area r place back-area back_head
+  pub then_read : ReadsBytes (scs_read_of_bytes (take size out) k l) r.read place back_area back_head
+  pub back : (m : Machine) → HeaderFor m head → Clean m.model area → 88 + memory_size m.model ≤ n → k ≡ 131072 → l ≡ 86 → CameBackKept m area r place back_area back_head
   pub long : (m : Machine) → HeaderFor m head → r.written ≡ 0 → size ≡ 88 + memory_size m.model
 
 -- what an accepted read gave, written: accepted, and the file reads as the same header and area

@@ -32,7 +32,7 @@ read_serves : (b : ReadBytes) (o : ReadResult) (head area log encoded : List ℕ
 read_serves b o head area log encoded room r place c x numbers gave p g =
     record {
       answer = p.answer;
-      place_told_lem = p.place;
+      place_told = p.place;
       ran = subst (λ (y : Buffers). RanBytes encoded room y x numbers) (λ j. started_buffers (p.header j) (p.area j) (length log)) g.ran;
       claim = λ e.
           let q = gave (sym p.answer ∙ e) in

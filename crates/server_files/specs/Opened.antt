@@ -9,6 +9,6 @@ use Rattle.server.specs.Server.{started_buffers, RanBytes, HistoryRun}
 -- the read with its place, and every call on what it left; where that number is 0, all is the paper bench's from that machine and memory.
 pub record ServesFile (b : ReadBytes) (w : State) (log encoded : List ℕ) (room r place : ℕ) (x : Buffers) (numbers : List ℕ) : Type 0 where
   pub answer : r ≡ b.answer
-  pub place_told_lem : place ≡ b.place
+  pub place_told : place ≡ b.place
   pub ran : RanBytes encoded room (started_buffers b.header b.area (length log)) x numbers
   pub claim : r ≡ 0 → HistoryRun w (length log) encoded room x numbers

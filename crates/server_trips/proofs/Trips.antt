@@ -54,12 +54,12 @@ trip m head area n w size out f c h p =
           ∙ ap (λ (x : List ℕ). record { answer = 0; place = 0; area = area; header = x }) (sym f.is),
     )
 
-pub writes_then_reads : (head area : List ℕ) (n k l w r size place : ℕ) (out back-area back_head : List ℕ) → WritesBytes (write_of_bytes head area n) w size out
-    → ReadsBytes (read_of_bytes (take (size - 0) (drop 0 out)) k l) r place back-area back_head
-    → WritesThenReads head area n k l (record { written = w; read = r }) out size place back-area back_head
-writes_then_reads head area n k l w r size place out back-area back_head p g =
+pub writes_then_reads : (head area : List ℕ) (n k l w r size place : ℕ) (out back_area back_head : List ℕ) → WritesBytes (write_of_bytes head area n) w size out
+    → ReadsBytes (read_of_bytes (take (size - 0) (drop 0 out)) k l) r place back_area back_head
+    → WritesThenReads head area n k l (record { written = w; read = r }) out size place back_area back_head
+writes_then_reads head area n k l w r size place out back_area back_head p g =
     let z : size - 0 ≡ size = omega arith in
-    let q : ReadsBytes (read_of_bytes (take size out) k l) r place back-area back_head = subst (λ (i : ℕ). ReadsBytes (read_of_bytes (take i out) k l) r place back-area back_head) z g in
+    let q : ReadsBytes (read_of_bytes (take size out) k l) r place back_area back_head = subst (λ (i : ℕ). ReadsBytes (read_of_bytes (take i out) k l) r place back_area back_head) z g in
     record {
       first = p;
       then_read = q;
