@@ -7,8 +7,7 @@ use Rattle.spectrum.specs.declared.Machine.{Machine}
 use Rattle.pages.specs.declared.Place.{Place}
 use Rattle.pages.specs.declared.Place.TheVariants.{Rom, Ram}
 use Rattle.numbers.specs.declared.Refusal.TheVariants.{RomAddress, JournalFull}
-use Rattle.numbers.specs.declared.Answer.{Answer}
-use Rattle.numbers.specs.declared.Answer.TheVariants.{Accepted}
+use Rattle.numbers.specs.Numbers.{Answer, accepted}
 use Rattle.pages.specs.Pages.{place_of}
 use Rattle.pages.proofs.Inside.{place_inside}
 use Rattle.session.specs.declared.Counts.{Counts}
@@ -44,10 +43,10 @@ module _ (m : Machine) (mem log : List ℕ) (n : Counts) (cap : ℕ) (g : Ready 
       pub byte_made_lem : (r : Done) (mem' log' : List ℕ) → n.standing < cap → result_of r mem' log' ≡ byte_made page offset v (session_on m mem log n) → result_of r mem' log' ≡ corrected (byte_at a v) (session_on m mem log n)
       unfolding corrected correction_answer make step_for
       byte_made_lem r mem' log' h q =
-          let k : rom_first (place_in m a) (room (capacity (length log)) n.standing) ≡ Accepted =
+          let k : rom_first (place_in m a) (room (capacity (length log)) n.standing) ≡ accepted =
           sym (by_place _) ∙ ap (λ (x : Place). rom_first x (room (capacity (length log)) n.standing)) e ∙ ap (λ (c : ℕ). room c n.standing) (sym g.capped) ∙ open_room m mem log n cap g h in
           q ∙ sym (simp k (λ j. record {
-            answer = Accepted;
+            answer = accepted;
             session = record {
               state = record { machine = m; memory = store ((sym ep ∙ e) j) v mem };
               log = put_step log n.standing (byte_step ((sym ep ∙ e) j) v mem);

@@ -1,7 +1,7 @@
 -- Contracts of functions that only proved code calls: a reviewer may skip this file.
 use Rattle.std.specs.Prelude.{ℕ, ◌+◌}
 use Rattle.pages.specs.declared.Place.TheVariants.{Ram}
-use Rattle.numbers.specs.declared.Answer.TheVariants.{Accepted}
+use Rattle.numbers.specs.Numbers.{accepted}
 use Rattle.log_steps.specs.Steps.{put_step}
 use Rattle.session.specs.Session.{Session, CallResult}
 use Rattle.corrections.specs.Corrections.{store, byte_step}
@@ -10,7 +10,7 @@ use Rattle.corrections.specs.Corrections.{store, byte_step}
 abbrev pub byte_made : ℕ → ℕ → ℕ → Session → CallResult
 byte_made page offset v d =
     record {
-      answer = Accepted;
+      answer = accepted;
       session = record {
         state = record { machine = d.state.machine; memory = store (Ram page offset) v d.state.memory };
         log = put_step d.log d.standing (byte_step (Ram page offset) v d.state.memory);

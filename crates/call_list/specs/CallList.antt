@@ -1,8 +1,7 @@
 -- A list of calls as bytes, four to a call.
 use Rattle.std.specs.Prelude.{ℕ, zero, suc, ◌+◌, ◌*◌, ◌/◌, ◌%◌, min, List, [], ◌∷◌, ◌++◌, map, length, get_or, replicate, eqb}
 use Rattle.slices.specs.Choose.{choose}
-use Rattle.numbers.specs.declared.Answer.{Answer}
-use Rattle.numbers.specs.Numbers.{number_of}
+use Rattle.numbers.specs.Numbers.{Answer, number_of}
 use Rattle.five_calls.specs.declared.Call.{Call}
 use Rattle.five_calls.specs.declared.Call.TheVariants.{Byte, Pair, Out, Undo, Redo}
 

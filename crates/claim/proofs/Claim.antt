@@ -8,8 +8,8 @@ use native.Mathlib.Numerals.{add-one}
 use native.Mathlib.Nat.{add-zero}
 use borrow.Author.Tests.{lt-ltb, le-ltb, le-leb, eq-eqb, ne_eqb}
 use lib.ListN.{length}
-use Rattle.numbers.specs.declared.Answer.{Answer}
-use Rattle.numbers.specs.declared.Answer.TheVariants.{Accepted, Refused}
+use Rattle.std.specs.Prelude.{Ok, Err}
+use Rattle.numbers.specs.Numbers.{Answer, accepted}
 use Rattle.spectrum.specs.State.{State}
 use Rattle.log_steps.specs.declared.Step.{Step}
 use Rattle.log_steps.specs.Steps.{capacity, put_step}
@@ -88,7 +88,7 @@ module _ (start : State) (size : ℕ) where
       )
 
   moved_is : (d : Session) (s : Step) (was v n : ℕ) (w : State) (n' t : ℕ) → intact d.state.machine.model s ≡ true → present s d.state ≡ was → placed s v d.state ≡ w → n ≡ n' → d.total ≡ t
-      → moved d s was v n ≡ record { answer = Accepted; session = record { state = w; log = d.log; standing = n'; total = t } }
+      → moved d s was v n ≡ record { answer = accepted; session = record { state = w; log = d.log; standing = n'; total = t } }
   moved_is d s was v n w n' t e1 e2 e3 e4 e5 = simp (e1, eq-eqb (present s d.state) was e2, e3, e4, e5)
 
   undo_agrees : (log : List ℕ) (cs us : List Correction) → Kept start size log (record { applied = cs; undone = us })
@@ -140,7 +140,7 @@ module _ (start : State) (size : ℕ) where
       n = length b.applied
 
       go : (a : Answer) → correction_answer (capacity size) w n c ≡ a → Agrees start size (if_sound (history_session start log b) (corrected c (history_session start log b))) (joins (correction_answer (capacity size) w n c) c b)
-      go Accepted e =
+      go (Ok u) e =
           let lt : n < capacity size = answer_room (capacity size) w n c e in
           let fits = room_in_log log (capacity size) n (capped log k.long) lt in
           let h = held c w log (capacity size) n k.fit wide e fits in
@@ -156,7 +156,7 @@ module _ (start : State) (size : ℕ) where
               future = tt;
             };
           })
-      go (Refused why) e = rw e (record { log = log; same = sound_passes log b k _ ∙ simp (capped log k.long, e); kept = k })
+      go (Err why) e = rw e (record { log = log; same = sound_passes log b k _ ∙ simp (capped log k.long, e); kept = k })
 
   call_agrees : (call : Call) (log : List ℕ) (b : History) → TypedCall call → Kept start size log b
       → Agrees start size (journal_call call (history_session start log b)) (history_call start size b call)

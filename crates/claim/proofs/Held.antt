@@ -15,8 +15,7 @@ use Rattle.pages.specs.declared.Model.TheVariants.{K48, K128}
 use Rattle.pages.specs.declared.Place.{Place}
 use Rattle.pages.specs.declared.Place.TheVariants.{Rom, Ram}
 use Rattle.numbers.specs.declared.Refusal.TheVariants.{RomAddress, OutOn48k, PagingLocked, JournalFull, PairNumber}
-use Rattle.numbers.specs.declared.Answer.{Answer}
-use Rattle.numbers.specs.declared.Answer.TheVariants.{Accepted}
+use Rattle.numbers.specs.Numbers.{Answer, accepted}
 use Rattle.spectrum.specs.Machine.{changed, with_pair, with_out}
 use Rattle.spectrum.specs.State.{State}
 use Rattle.spectrum.specs.Valid.{valid_of, ports_fit}
@@ -51,10 +50,10 @@ pub record Holds (log : List ℕ) (k : ℕ) (s : Step) (w w' : State) : Type 0 w
 abbrev pub Held : List ℕ → ℕ → Correction → State → Type 0
 Held log k c w = Holds log k (step_for c w) w (make c w)
 
-has_room : (cap n : ℕ) → room cap n ≡ Accepted → n < cap
-has_room cap n e = ltb-true n cap (not_flip (ltb n cap) (refuse_not (not (ltb n cap)) JournalFull Accepted e).0)
+has_room : (cap n : ℕ) → room cap n ≡ accepted → n < cap
+has_room cap n e = ltb-true n cap (not_flip (ltb n cap) (refuse_not (not (ltb n cap)) JournalFull accepted e).0)
 
-out_128 : (k : Model) (out : ℕ) (a : Answer) → out_first k out a ≡ Accepted → (k ≡ K128) × (a ≡ Accepted)
+out_128 : (k : Model) (out : ℕ) (a : Answer) → out_first k out a ≡ accepted → (k ≡ K128) × (a ≡ accepted)
 out_128 K48 out a e = absurd (refused_not OutOn48k e)
 out_128 K128 out a e = (refl, (refuse_not (eqb (out / 32 % 2) 1) PagingLocked a e).1)
 
@@ -191,22 +190,22 @@ out_holds v w log k ok b e fits =
     }
 
 -- a correction that is accepted, made on a start, is held by the step that it writes
-pub held : (c : Correction) (w : State) (log : List ℕ) (cap k : ℕ) → ValidStart w → TypedCorrection c → correction_answer cap w k c ≡ Accepted → k * 11 + 11 ≤ length log → Held (put_step log k (step_for c w)) k c w
+pub held : (c : Correction) (w : State) (log : List ℕ) (cap k : ℕ) → ValidStart w → TypedCorrection c → correction_answer cap w k c ≡ accepted → k * 11 + 11 ≤ length log → Held (put_step log k (step_for c w)) k c w
 unfolding step_for make correction_answer
 held (byte_at a v) w log cap k ok wide e fits = go (place_in w.machine a) refl e
   where
-    go : (p : Place) → place_in w.machine a ≡ p → rom_first p (room cap k) ≡ Accepted
+    go : (p : Place) → place_in w.machine a ≡ p → rom_first p (room cap k) ≡ accepted
         → Holds (put_step log k (byte_step p v w.memory)) k (byte_step p v w.memory) w (record { machine = w.machine; memory = store p v w.memory })
     go Rom q h = absurd (refused_not RomAddress h)
     go (Ram page offset) q h = byte_holds v w log k page offset ok wide.1 (place_inside w.machine.model w.machine.out7ffd a page offset wide.0 q) fits
 held (pair_to p v) w log cap k ok wide e fits = pair_holds p v w log k ok wide (ltb-false 11 p (refuse_not (ltb 11 p) PairNumber (room cap k) e).0) fits
 held (out_to v) w log cap k ok wide e fits = out_holds v w log k ok wide (out_128 w.machine.model w.machine.out7ffd (room cap k) e).0 fits
 
-pub answer_room : (cap : ℕ) (w : State) (n : ℕ) (c : Correction) → correction_answer cap w n c ≡ Accepted → n < cap
+pub answer_room : (cap : ℕ) (w : State) (n : ℕ) (c : Correction) → correction_answer cap w n c ≡ accepted → n < cap
 unfolding correction_answer
 answer_room cap w n (byte_at a v) e = go (place_in w.machine a) e
   where
-    go : (p : Place) → rom_first p (room cap n) ≡ Accepted → n < cap
+    go : (p : Place) → rom_first p (room cap n) ≡ accepted → n < cap
     go Rom h = absurd (refused_not RomAddress h)
     go (Ram page offset) h = has_room cap n h
 answer_room cap w n (pair_to p v) e = has_room cap n (refuse_not (ltb 11 p) PairNumber (room cap n) e).1

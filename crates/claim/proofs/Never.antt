@@ -6,16 +6,15 @@ use mathlib.Core.List.{List, [], ◌∷◌}
 use native.Mathlib.Omega.{arith}
 use lib.Dec.{ltb, eqb}
 use lib.ListN.{length}
+use Rattle.std.specs.Prelude.{Ok, Err}
 use Rattle.pages.specs.declared.Model.{Model}
 use Rattle.pages.specs.declared.Model.TheVariants.{K48, K128}
 use Rattle.pages.specs.declared.Place.{Place}
 use Rattle.pages.specs.declared.Place.TheVariants.{Rom, Ram}
 use Rattle.numbers.specs.declared.Refusal.{Refusal}
 use Rattle.numbers.specs.declared.Refusal.TheVariants.{PagingLocked, JournalFull, PairNumber}
-use Rattle.numbers.specs.declared.Answer.{Answer}
-use Rattle.numbers.specs.declared.Answer.TheVariants.{Accepted, Refused}
+use Rattle.numbers.specs.Numbers.{Answer, accepted, number_of, refusal_number, refuse}
 use Rattle.spectrum.specs.State.{State}
-use Rattle.numbers.specs.Numbers.{number_of, refusal_number, refuse}
 use Rattle.log_steps.specs.Steps.{capacity}
 use Rattle.session.specs.Session.{started}
 use Rattle.corrections.specs.Corrections.{Correction, byte_at, pair_to, out_to, place_in, rom_first, out_first, room, correction_answer}
@@ -35,7 +34,7 @@ refuse_other true why a p q = p
 refuse_other false why a p q = q
 
 room_other : (cap n : ℕ) → Not28Or29 (number_of (room cap n))
-room_other cap n = refuse_other (not (ltb n cap)) JournalFull Accepted (λ e. omega arith, λ e. omega arith) (λ e. omega arith, λ e. omega arith)
+room_other cap n = refuse_other (not (ltb n cap)) JournalFull accepted (λ e. omega arith, λ e. omega arith) (λ e. omega arith, λ e. omega arith)
 
 rom_other : (p : Place) (a : Answer) → Not28Or29 (number_of a) → Not28Or29 (number_of (rom_first p a))
 rom_other Rom a q = (λ e. omega arith, λ e. omega arith)
@@ -52,8 +51,8 @@ answer_other cap w n (pair_to p v) = refuse_other (ltb 11 p) PairNumber (room ca
 answer_other cap w n (out_to v) = out_other w.machine.model w.machine.out7ffd (room cap n) (room_other cap n)
 
 joins_other : (a : Answer) (c : Correction) (b : History) → Not28Or29 (number_of a) → Not28Or29 (number_of (joins a c b).answer)
-joins_other Accepted c b q = q
-joins_other (Refused why) c b q = q
+joins_other (Ok u) c b q = q
+joins_other (Err why) c b q = q
 
 undo_other : (cs us : List Correction) → Not28Or29 (number_of (history_undo cs us).answer)
 undo_other [] us = (λ e. omega arith, λ e. omega arith)

@@ -4,11 +4,11 @@ use mathlib.Core.Path.{◌≡◌, refl, sym, ◌∙◌}
 use mathlib.Core.Bool.{Bool, true, false}
 use lib.Dec.{ltb, eqb}
 use lib.ListN.{length}
+use Rattle.std.specs.Prelude.{Ok, Err}
 use Rattle.slices.specs.Choose.{choose, both}
 use Rattle.numbers.specs.declared.Refusal.{Refusal}
 use Rattle.numbers.specs.declared.Refusal.TheVariants.{NothingToMove}
-use Rattle.numbers.specs.declared.Answer.{Answer}
-use Rattle.numbers.specs.declared.Answer.TheVariants.{Accepted, Refused}
+use Rattle.numbers.specs.Numbers.{Answer, accepted}
 use Rattle.numbers.proofs.Numbers.{refused_not}
 use Rattle.log_steps.specs.declared.Step.{Step}
 use Rattle.log_steps.specs.Steps.{capacity}
@@ -23,14 +23,14 @@ use Rattle.journal.specs.Journal.{soundness, if_sound, journal_call}
 
 -- where it is refused, the session is as it was
 abbrev Still : Session → CallResult → Type 0
-Still d x = (why : Refusal) → x.answer ≡ Refused why → x.session ≡ d
+Still d x = (why : Refusal) → x.answer ≡ Err why → x.session ≡ d
 
-accepted_still : (d : Session) (x : CallResult) → x.answer ≡ Accepted → Still d x
+accepted_still : (d : Session) (x : CallResult) → x.answer ≡ accepted → Still d x
 accepted_still d x a why e = absurd (refused_not why (sym e ∙ a))
 
 then_still : (a : Answer) (d : Session) (x : CallResult) → Still d x → Still d (if_accepted a d x)
-then_still Accepted d x h = h
-then_still (Refused w) d x h = λ why e. refl
+then_still (Ok u) d x h = h
+then_still (Err w) d x h = λ why e. refl
 
 choose_still : (t : Bool) (d : Session) (x y : CallResult) → Still d x → Still d y → Still d (choose t x y)
 choose_still true d x y h g = h
@@ -54,6 +54,6 @@ called_still (Out v) d = correct_still (out_to v) d
 called_still Undo d = choose_still (eqb d.standing 0) d (unchanged d NothingToMove) _ (λ why e. refl) (moved_still d _ _ _ _)
 called_still Redo d = choose_still (ltb d.standing d.total) d _ (unchanged d NothingToMove) (moved_still d _ _ _ _) (λ why e. refl)
 
-pub still : (c : Call) (d : Session) (why : Refusal) → (journal_call c d).answer ≡ Refused why → (journal_call c d).session ≡ d
+pub still : (c : Call) (d : Session) (why : Refusal) → (journal_call c d).answer ≡ Err why → (journal_call c d).session ≡ d
 unfolding journal_call
 still c d = sound_still d (called c d) (called_still c d)

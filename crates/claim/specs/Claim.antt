@@ -1,6 +1,6 @@
 -- Demand 3: "After every list machine, memory, standing and total equal the paper bench's, and so does every answer."
 use Rattle.std.specs.Prelude.{ℕ, ◌+◌, ◌<◌, ◌≡◌, true, List, [], ◌∷◌, length, get_or}
-use Rattle.numbers.specs.declared.Answer.{Answer}
+use Rattle.numbers.specs.Numbers.{Answer}
 use Rattle.spectrum.specs.State.{State}
 use Rattle.spectrum.specs.Valid.{Typed, valid_of}
 use Rattle.five_calls.specs.declared.Call.{Call}

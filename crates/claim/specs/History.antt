@@ -1,9 +1,8 @@
 -- Document 01's paper bench: corrections as asked, those that stand ("applied") and those that wait ("undone"), and the state as the
 -- start with the standing ones made afresh. It sees no answer and no byte of the log, only the log's length.
-use Rattle.std.specs.Prelude.{ℕ, List, [], ◌∷◌, length}
+use Rattle.std.specs.Prelude.{ℕ, List, [], ◌∷◌, length, Ok, Err}
 use Rattle.numbers.specs.declared.Refusal.TheVariants.{NothingToMove}
-use Rattle.numbers.specs.declared.Answer.{Answer}
-use Rattle.numbers.specs.declared.Answer.TheVariants.{Accepted, Refused}
+use Rattle.numbers.specs.Numbers.{Answer, accepted}
 use Rattle.spectrum.specs.State.{State}
 use Rattle.log_steps.specs.Steps.{capacity}
 use Rattle.corrections.specs.Corrections.{Correction, byte_at, pair_to, out_to, make, correction_answer}
@@ -26,21 +25,21 @@ pub record HistoryResult : Type 0 where
 
 -- "Correction: refused with the first number of its order that holds here. Else it joins the standing ones as last, and none waits."
 abbrev pub joins : Answer → Correction → History → HistoryResult
-joins Accepted c b = record { answer = Accepted; history = record { applied = c ∷ b.applied; undone = [] } }
-joins (Refused why) c b = record { answer = Refused why; history = b }
+joins (Ok u) c b = record { answer = accepted; history = record { applied = c ∷ b.applied; undone = [] } }
+joins (Err why) c b = record { answer = Err why; history = b }
 
 abbrev pub history_correct : State → ℕ → History → Correction → HistoryResult
 history_correct start size b c = joins (correction_answer (capacity size) (made start b.applied) (length b.applied) c) c b
 
 -- "Undo: 27 if none stands, else the last standing one becomes the first to wait."
 abbrev pub history_undo : List Correction → List Correction → HistoryResult
-history_undo [] us = record { answer = Refused NothingToMove; history = record { applied = []; undone = us } }
-history_undo (c ∷ cs) us = record { answer = Accepted; history = record { applied = cs; undone = c ∷ us } }
+history_undo [] us = record { answer = Err NothingToMove; history = record { applied = []; undone = us } }
+history_undo (c ∷ cs) us = record { answer = accepted; history = record { applied = cs; undone = c ∷ us } }
 
 -- "Redo: 27 if none waits, else the first to wait becomes the last standing one."
 abbrev pub history_redo : List Correction → List Correction → HistoryResult
-history_redo cs [] = record { answer = Refused NothingToMove; history = record { applied = cs; undone = [] } }
-history_redo cs (u ∷ us) = record { answer = Accepted; history = record { applied = u ∷ cs; undone = us } }
+history_redo cs [] = record { answer = Err NothingToMove; history = record { applied = cs; undone = [] } }
+history_redo cs (u ∷ us) = record { answer = accepted; history = record { applied = u ∷ cs; undone = us } }
 
 abbrev pub history_call : State → ℕ → History → Call → HistoryResult
 history_call start size b (Byte address v) = history_correct start size b (byte_at address v)

@@ -1,10 +1,8 @@
 -- What is claimed of the correction log beyond the calls' contracts.
-use Rattle.std.specs.Prelude.{ℕ, ◌≡◌, List, [], ◌∷◌, reverse}
+use Rattle.std.specs.Prelude.{ℕ, ◌≡◌, List, [], ◌∷◌, reverse, Err}
 use Rattle.numbers.specs.declared.Refusal.{Refusal}
-use Rattle.numbers.specs.declared.Answer.{Answer}
-use Rattle.numbers.specs.declared.Answer.TheVariants.{Accepted, Refused}
+use Rattle.numbers.specs.Numbers.{Answer, accepted, number_of}
 use Rattle.spectrum.specs.State.{State}
-use Rattle.numbers.specs.Numbers.{number_of}
 use Rattle.z80file.specs.Clean.{ReadGives}
 use Rattle.session.specs.Session.{Session, started}
 use Rattle.corrections.specs.Corrections.{Correction, make}
@@ -30,15 +28,15 @@ pub record Theorems : Type 0 where
   -- "with the standing corrections made afresh in order": the head of the applied ones is the last
   pub first_to_last : (w : State) (cs : List Correction) → afresh w (reverse cs) ≡ made w cs
   -- "The other calls change nothing when refused": machine, memory, log and both numbers, in all five calls and on every input
-  pub still : (c : Call) (d : Session) (why : Refusal) → (journal_call c d).answer ≡ Refused why → (journal_call c d).session ≡ d
+  pub still : (c : Call) (d : Session) (why : Refusal) → (journal_call c d).answer ≡ Err why → (journal_call c d).session ≡ d
   -- what a list of calls leaves is valid and a start again
   pub start_after : (start : State) (log : List ℕ) → ValidStart start → (calls : List Call) → TypedCalls calls
       → ValidStart (run_after journal_call (started start log) calls).state
   -- "An accepted read of a Spectrum file gives a valid machine .. so an opened file is a start": a valid machine, a clean memory of 131,072 bytes
-  pub open_start : (file : List ℕ) (n size : ℕ) → (open_of file n size).answer ≡ Accepted
+  pub open_start : (file : List ℕ) (n size : ℕ) → (open_of file n size).answer ≡ accepted
       → ReadGives (open_of file n size).session.state.machine (open_of file n size).session.state.memory n
   -- and so is an opened SCS file
-  pub scs_open_start : (file : List ℕ) (n size : ℕ) → (scs_open_of file n size).answer ≡ Accepted
+  pub scs_open_start : (file : List ℕ) (n size : ℕ) → (scs_open_of file n size).answer ≡ accepted
       → ReadGives (scs_open_of file n size).session.state.machine (scs_open_of file n size).session.state.memory n
   -- "28 and 29 never come in such a run"
   pub never_28_29 : (start : State) (log : List ℕ) → ValidStart start → (calls : List Call) → TypedCalls calls

@@ -2,7 +2,7 @@
 use Rattle.std.specs.Prelude.{ℕ, ◌+◌, ◌-◌, eqb}
 use Rattle.slices.specs.Choose.{choose}
 use Rattle.numbers.specs.declared.Refusal.TheVariants.{JournalFull}
-use Rattle.numbers.specs.declared.Answer.TheVariants.{Accepted}
+use Rattle.numbers.specs.Numbers.{accepted}
 use Rattle.five_calls.specs.declared.Call.{Call}
 use Rattle.five_calls.specs.declared.Call.TheVariants.{Byte, Pair, Out, Undo, Redo}
 use Rattle.session.specs.Session.{Session, CallResult, unchanged}
@@ -22,7 +22,7 @@ always_refuses c d = by_kind c (unchanged d JournalFull) (journal_call c d) (jou
 
 -- a step counted, and nothing altered
 abbrev pub counted : Session → ℕ → ℕ → CallResult
-counted d standing total = record { answer = Accepted; session = record { state = d.state; log = d.log; standing = standing; total = total } }
+counted d standing total = record { answer = accepted; session = record { state = d.state; log = d.log; standing = standing; total = total } }
 
 -- ".. or accepts and alters nothing"
 unfoldable pub alters_nothing : Call → Session → CallResult

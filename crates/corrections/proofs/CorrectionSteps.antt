@@ -4,13 +4,13 @@ use mathlib.Core.Path.{◌≡◌, sym, ap, ◌∙◌}
 use mathlib.Core.List.{List}
 use borrow.Author.Tests.{lt-ltb, le-ltb, eq-eqb, ne_eqb}
 use lib.ListN.{length, get_or}
+use Rattle.std.specs.Prelude.{Err}
 use Rattle.spectrum.specs.declared.Machine.{Machine}
 use Rattle.pages.specs.declared.Model.{Model}
 use Rattle.pages.specs.declared.Model.TheVariants.{K48, K128}
 use Rattle.numbers.specs.declared.Refusal.{Refusal}
 use Rattle.numbers.specs.declared.Refusal.TheVariants.{OutOn48k, PagingLocked, JournalFull, PairNumber}
-use Rattle.numbers.specs.declared.Answer.{Answer}
-use Rattle.numbers.specs.declared.Answer.TheVariants.{Accepted, Refused}
+use Rattle.numbers.specs.Numbers.{Answer, accepted}
 use Rattle.spectrum.specs.Machine.{with_pair, with_out}
 use Rattle.log_steps.specs.declared.Step.{Step}
 use Rattle.session.specs.declared.Counts.{Counts}
@@ -24,33 +24,33 @@ use Rattle.corrections.specs.Corrections.{Correction, pair_to, out_to, make, out
 
 -- the end of a correction
 abbrev pub added_done : Machine → Counts → Done
-added_done m n = record { answer = Accepted; machine = m; counts = record { standing = n.standing + 1; total = n.standing + 1 } }
+added_done m n = record { answer = accepted; machine = m; counts = record { standing = n.standing + 1; total = n.standing + 1 } }
 
-pub added_is : (m : Machine) (n : Counts) (k : Counts) (r : Done) → k ≡ record { standing = n.standing + 1; total = n.standing + 1 } → r ≡ record { answer = Accepted; machine = m; counts = k }
+pub added_is : (m : Machine) (n : Counts) (k : Counts) (r : Done) → k ≡ record { standing = n.standing + 1; total = n.standing + 1 } → r ≡ record { answer = accepted; machine = m; counts = k }
     → r ≡ added_done m n
-added_is m n k r e q = q ∙ ap (λ (x : Counts). record { answer = Accepted; machine = m; counts = x }) e
+added_is m n k r e q = q ∙ ap (λ (x : Counts). record { answer = accepted; machine = m; counts = x }) e
 
 -- ---- corrections
 module _ (m : Machine) (mem log : List ℕ) (n : Counts) (cap : ℕ) (g : Ready mem log n cap) where
-  pub refused_as : (c : Correction) (why : Refusal) (r : Done) → correction_answer cap (on m mem) n.standing c ≡ Refused why → r ≡ refused_done why m n → result_of r mem log ≡ corrected c (session_on m mem log n)
+  pub refused_as : (c : Correction) (why : Refusal) (r : Done) → correction_answer cap (on m mem) n.standing c ≡ Err why → r ≡ refused_done why m n → result_of r mem log ≡ corrected c (session_on m mem log n)
   unfolding corrected
   refused_as c why r e er =
-      let e2 : correction_answer (capacity (length log)) (on m mem) n.standing c ≡ Refused why = ap (λ (k : ℕ). correction_answer k (on m mem) n.standing c) (sym g.capped) ∙ e in
+      let e2 : correction_answer (capacity (length log)) (on m mem) n.standing c ≡ Err why = ap (λ (k : ℕ). correction_answer k (on m mem) n.standing c) (sym g.capped) ∙ e in
       rw er (sym (simp e2))
 
-  accepted_as : (c : Correction) (m' : Machine) (mem' log' : List ℕ) (s : Step) (r : Done) → correction_answer cap (on m mem) n.standing c ≡ Accepted
+  accepted_as : (c : Correction) (m' : Machine) (mem' log' : List ℕ) (s : Step) (r : Done) → correction_answer cap (on m mem) n.standing c ≡ accepted
       → on m' mem' ≡ make c (on m mem) → s ≡ step_for c (on m mem) → r ≡ added_done m' n → log' ≡ put_step log n.standing s
       → result_of r mem' log' ≡ corrected c (session_on m mem log n)
   unfolding corrected
   accepted_as c m' mem' log' s r e ew es er el =
-      let e2 : correction_answer (capacity (length log)) (on m mem) n.standing c ≡ Accepted = ap (λ (k : ℕ). correction_answer k (on m mem) n.standing c) (sym g.capped) ∙ e in
+      let e2 : correction_answer (capacity (length log)) (on m mem) n.standing c ≡ accepted = ap (λ (k : ℕ). correction_answer k (on m mem) n.standing c) (sym g.capped) ∙ e in
       let el2 : log' ≡ put_step log n.standing (step_for c (on m mem)) = el ∙ ap (put_step log n.standing) es in
       rw er (sym (simp (e2, ← ew, ← el2)))
 
-  pub journal_full : cap ≤ n.standing → room cap n.standing ≡ Refused JournalFull
+  pub journal_full : cap ≤ n.standing → room cap n.standing ≡ Err JournalFull
   journal_full h = simp (le-ltb n.standing cap h)
 
-  pub open_room : n.standing < cap → room cap n.standing ≡ Accepted
+  pub open_room : n.standing < cap → room cap n.standing ≡ accepted
   open_room h = simp (lt-ltb n.standing cap h)
 
   pub standing_few : n.standing < cap → n.standing < 4096

@@ -1,17 +1,15 @@
 -- "Corrections: a byte at an address, a register pair, an OUT to 7FFD": what each means, when it is refused, and the step that it writes.
-use Rattle.std.specs.Prelude.{ℕ, ◌+◌, ◌*◌, ◌/◌, ◌%◌, List, not, length, get_or, set, ltb, eqb}
+use Rattle.std.specs.Prelude.{ℕ, ◌+◌, ◌*◌, ◌/◌, ◌%◌, List, not, length, get_or, set, ltb, eqb, Err}
 use Rattle.spectrum.specs.declared.Machine.{Machine}
 use Rattle.pages.specs.declared.Model.{Model}
 use Rattle.pages.specs.declared.Model.TheVariants.{K48, K128}
 use Rattle.pages.specs.declared.Place.{Place}
 use Rattle.pages.specs.declared.Place.TheVariants.{Rom, Ram}
 use Rattle.numbers.specs.declared.Refusal.TheVariants.{RomAddress, OutOn48k, PagingLocked, JournalFull, PairNumber}
-use Rattle.numbers.specs.declared.Answer.{Answer}
-use Rattle.numbers.specs.declared.Answer.TheVariants.{Accepted, Refused}
+use Rattle.numbers.specs.Numbers.{Answer, accepted, refuse}
 use Rattle.spectrum.specs.Machine.{with_pair, with_out}
 use Rattle.spectrum.specs.State.{State}
 use Rattle.pages.specs.Pages.{place_of}
-use Rattle.numbers.specs.Numbers.{refuse}
 use Rattle.log_steps.specs.declared.Step.{Step}
 use Rattle.log_steps.specs.Steps.{capacity, put_step}
 use Rattle.session.specs.Session.{Session, CallResult, if_accepted}
@@ -38,17 +36,17 @@ make (out_to v) w = record { machine = with_out w.machine v; memory = w.memory }
 
 -- "23 address below 4000"
 abbrev pub rom_first : Place → Answer → Answer
-rom_first Rom a = Refused RomAddress
+rom_first Rom a = Err RomAddress
 rom_first (Ram page offset) a = a
 
 -- "24 OUT on a 48K machine", then "25 paging locked": bit 5 of the last OUT
 abbrev pub out_first : Model → ℕ → Answer → Answer
-out_first K48 out a = Refused OutOn48k
+out_first K48 out a = Err OutOn48k
 out_first K128 out a = refuse (eqb (out / 32 % 2) 1) PagingLocked a
 
 -- "26 standing equals capacity"
 abbrev pub room : ℕ → ℕ → Answer
-room cap n = refuse (not (ltb n cap)) JournalFull Accepted
+room cap n = refuse (not (ltb n cap)) JournalFull accepted
 
 -- the answer to a correction where n stand: "32 or 23 or 24 then 25, then 26"
 unfoldable pub correction_answer : ℕ → State → ℕ → Correction → Answer
@@ -75,7 +73,7 @@ unfoldable pub corrected : Correction → Session → CallResult
 corrected c d =
     if_accepted (correction_answer (capacity (length d.log)) d.state d.standing c) d
     (record {
-      answer = Accepted;
+      answer = accepted;
       session = record {
         state = make c d.state;
         log = put_step d.log d.standing (step_for c d.state);

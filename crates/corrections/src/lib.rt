@@ -2,7 +2,7 @@
 #![tactic(auto)]
 
 ghost use Rattle.std.specs.Prelude.{◌+◌, ◌*◌, ◌≤◌, ◌<◌, ◌≡◌, length};
-ghost use Rattle.numbers.specs.declared.Answer.TheVariants.{Accepted};
+ghost use Rattle.numbers.specs.Numbers.{accepted};
 ghost use Rattle.log_steps.specs.Steps.{put_step};
 ghost use Rattle.session.specs.Session.{session_on, result_of};
 ghost use Rattle.log_steps.specs.Inner.{Ready};
@@ -86,7 +86,7 @@ pub fn correct_out(
 // The end of each correction: its step is written, and it is the last.
 pub fn record_step(m: Machine, log: &mut [u8], n: Counts, s: Step) -> Done
     requires { (n.standing < 4096) × (n.standing * 11 + 11 ≤ length log.old) }
-    ensures { (result ≡ record { answer = Accepted; machine = m; counts = record { standing = n.standing + 1; total = n.standing + 1 } }) × (log.new ≡ put_step log.old n.standing s) }
+    ensures { (result ≡ record { answer = accepted; machine = m; counts = record { standing = n.standing + 1; total = n.standing + 1 } }) × (log.new ≡ put_step log.old n.standing s) }
 {
     let k = n.standing;
     log_steps::put_step(log, k, s);

@@ -7,8 +7,8 @@ use mathlib.Core.List.{List, ◌++◌, append-nil}
 use lib.ListN.{length, drop, replicate, drop_of_length-le}
 use lib.Dec.{eqb}
 use borrow.Author.Tests.{eq-eqb, ne_eqb}
+use Rattle.std.specs.Prelude.{Err}
 use Rattle.slices.specs.Choose.{choose}
-use Rattle.numbers.specs.declared.Answer.TheVariants.{Refused}
 use Rattle.numbers.specs.declared.Refusal.TheVariants.{InvalidMachine}
 use Rattle.numbers.specs.Numbers.{number_of}
 use Rattle.header_canonical.specs.declared.DecodedHeader.{DecodedHeader}
@@ -25,7 +25,7 @@ abbrev pub read_through : ReadResult → ℕ → ℕ → ReadBytes
 read_through o n k = choose (eqb k 86) (read_in_bytes o) (record { answer = bad_header; place = 0; area = replicate n 0; header = replicate k 0 })
 
 module _ (o : ReadResult) (before head : List ℕ) (r place : ℕ) where
-  pub through_other : (area zeros : List ℕ) → (length head ≡ 86 → ⊥) → area ≡ replicate (length before) 0 → zeros ≡ replicate (length head) 0 → place ≡ 0 → r ≡ number_of (Refused InvalidMachine)
+  pub through_other : (area zeros : List ℕ) → (length head ≡ 86 → ⊥) → area ≡ replicate (length before) 0 → zeros ≡ replicate (length head) 0 → place ≡ 0 → r ≡ number_of (Err InvalidMachine)
       → ReadsBytes (read_through o (length before) (length head)) r place area zeros
   through_other area zeros h a z l e = rw (ne_eqb (length head) 86 h) (record { answer = e; place = l; area = a; header = z })
 
@@ -48,12 +48,12 @@ module _ (o : WriteResult) (t : DecodedHeader) (n r size : ℕ) (out : List ℕ)
   pub through_taken : (w : Written) → t.canonical ≡ true → Writes o w out → size ≡ w.length → r ≡ number_of w.answer → WritesBytes (write_through t o n) r size out
   through_taken w c g s e = rw c (record { answer = e ∙ ap number_of g.answer; size = s ∙ g.size; out = g.memory })
 
-  pub through_none : t.canonical ≡ false → out ≡ replicate n 0 → size ≡ 0 → r ≡ number_of (Refused InvalidMachine) → WritesBytes (write_through t o n) r size out
+  pub through_none : t.canonical ≡ false → out ≡ replicate n 0 → size ≡ 0 → r ≡ number_of (Err InvalidMachine) → WritesBytes (write_through t o n) r size out
   through_none c z s e = rw c (record { answer = e; size = s; out = z })
 
 -- .Z80 files
 module _ (file before head : List ℕ) (r place : ℕ) where
-  pub read_other : (area zeros : List ℕ) → (length head ≡ 86 → ⊥) → area ≡ replicate (length before) 0 → zeros ≡ replicate (length head) 0 → place ≡ 0 → r ≡ number_of (Refused InvalidMachine)
+  pub read_other : (area zeros : List ℕ) → (length head ≡ 86 → ⊥) → area ≡ replicate (length before) 0 → zeros ≡ replicate (length head) 0 → place ≡ 0 → r ≡ number_of (Err InvalidMachine)
       → ReadsBytes (read_of_bytes file (length before) (length head)) r place area zeros
   unfolding read_of_bytes
   read_other area zeros h a z l e = through_other (read_of file (length before)) before head r place area zeros h a z l e
@@ -69,7 +69,7 @@ module _ (head area before : List ℕ) (r size : ℕ) (out : List ℕ) (t : Deco
   unfolding write_of_bytes
   write_taken w c g s e = rw (← et) (through_taken (written_of t.machine area (length before)) t (length before) r size out w c g s e)
 
-  pub write_other : t.canonical ≡ false → out ≡ replicate (length before) 0 → size ≡ 0 → r ≡ number_of (Refused InvalidMachine)
+  pub write_other : t.canonical ≡ false → out ≡ replicate (length before) 0 → size ≡ 0 → r ≡ number_of (Err InvalidMachine)
       → WritesBytes (write_of_bytes head area (length before)) r size out
   unfolding write_of_bytes
   write_other c z s e = rw (← et) (through_none (written_of t.machine area (length before)) t (length before) r size out c z s e)

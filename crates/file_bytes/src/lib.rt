@@ -4,7 +4,7 @@
 ghost use Rattle.std.specs.Prelude.{length};
 ghost use Rattle.file_bytes.specs.Files.{read_of_bytes, ReadsBytes, write_of_bytes, WritesBytes};
 
-use numbers::{Answer, Refusal};
+use numbers::Refusal;
 
 // A .Z80 file into an area of 131,072 bytes and a header of 86; the offset in the file that is named with the number, or 0.
 pub fn read(file: &[u8], area: &mut [u8], head: &mut [u8], offset: &mut u64) -> u32
@@ -14,7 +14,7 @@ pub fn read(file: &[u8], area: &mut [u8], head: &mut [u8], offset: &mut u64) -> 
         slices::fill(area, 0);
         slices::fill(head, 0);
         *offset = 0;
-        return numbers::number(Answer::Refused(Refusal::InvalidMachine));
+        return numbers::number(Err(Refusal::InvalidMachine));
     }
     let opened = z80read::read(file, area);
     let m = opened.machine;
@@ -39,5 +39,5 @@ pub fn write(head: &[u8], area: &[u8], out: &mut [u8], size: &mut u64) -> u32
     }
     slices::fill(out, 0);
     *size = 0;
-    numbers::number(Answer::Refused(Refusal::InvalidMachine))
+    numbers::number(Err(Refusal::InvalidMachine))
 }

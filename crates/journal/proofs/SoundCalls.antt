@@ -6,13 +6,13 @@ use mathlib.Core.List.{List}
 use borrow.Author.Tests.{eq-eqb, ne_eqb, le-leb, lt-leb, eqb-true, leb-true}
 use lib.Dec.{leb, eqb}
 use lib.ListN.{length, replicate}
+use Rattle.std.specs.Prelude.{Err}
 use Rattle.slices.specs.Choose.{both}
 use Rattle.slices.proofs.Chosen.{both_true, not_flip}
 use Rattle.spectrum.specs.declared.Machine.{Machine}
 use Rattle.numbers.specs.declared.Refusal.{Refusal}
 use Rattle.numbers.specs.declared.Refusal.TheVariants.{InvalidMachine, MemoryLength, CountsDisagree}
-use Rattle.numbers.specs.declared.Answer.{Answer}
-use Rattle.numbers.specs.declared.Answer.TheVariants.{Accepted, Refused}
+use Rattle.numbers.specs.Numbers.{Answer, accepted}
 use Rattle.spectrum.specs.Valid.{valid_of}
 use Rattle.numbers.proofs.Numbers.{refuse_not}
 use Rattle.z80read.specs.declared.Opened.{Opened}
@@ -30,24 +30,24 @@ use Rattle.journal.specs.Journal.{soundness, journal_call, start_counts, opened_
 
 -- 20, 21, 29
 module _ (m : Machine) (area cap standing total : ℕ) (t : Bool) (et : t ≡ valid_of m) where
-  pub sound_20 : t ≡ false → Refused InvalidMachine ≡ soundness m area cap standing total
+  pub sound_20 : t ≡ false → Err InvalidMachine ≡ soundness m area cap standing total
   unfolding soundness
   sound_20 h = rw (← et, h)
 
   module _ (h : t ≡ true) where
-    pub sound_21 : (area ≡ 131072 → ⊥) → Refused MemoryLength ≡ soundness m area cap standing total
+    pub sound_21 : (area ≡ 131072 → ⊥) → Err MemoryLength ≡ soundness m area cap standing total
     unfolding soundness
     sound_21 a = rw (← et, h, ne_eqb area 131072 a)
 
-    pub sound_0 : area ≡ 131072 → standing ≤ total → total ≤ cap → Accepted ≡ soundness m area cap standing total
+    pub sound_0 : area ≡ 131072 → standing ≤ total → total ≤ cap → accepted ≡ soundness m area cap standing total
     unfolding soundness
     sound_0 a b c = rw (← et, h, eq-eqb area 131072 a, le-leb standing total b, le-leb total cap c)
 
-    pub sound_29 : area ≡ 131072 → standing ≤ total → cap < total → Refused CountsDisagree ≡ soundness m area cap standing total
+    pub sound_29 : area ≡ 131072 → standing ≤ total → cap < total → Err CountsDisagree ≡ soundness m area cap standing total
     unfolding soundness
     sound_29 a b c = rw (← et, h, eq-eqb area 131072 a, le-leb standing total b, lt-leb total cap c)
 
-    pub sound_29b : area ≡ 131072 → total < standing → Refused CountsDisagree ≡ soundness m area cap standing total
+    pub sound_29b : area ≡ 131072 → total < standing → Err CountsDisagree ≡ soundness m area cap standing total
     unfolding soundness
     sound_29b a b = rw (← et, h, eq-eqb area 131072 a, lt-leb standing total b)
 
@@ -55,20 +55,20 @@ module _ (m : Machine) (mem log : List ℕ) (n : Counts) (cap : ℕ) (f : Answer
   soundness_is : soundness m (length mem) (capacity (length log)) n.standing n.total ≡ f
   soundness_is = ap (λ (k : ℕ). soundness m (length mem) k n.standing n.total) (sym ecap) ∙ sym ef
 
-  pub sound_ready : f ≡ Accepted → Ready mem log n cap
+  pub sound_ready : f ≡ accepted → Ready mem log n cap
   unfolding soundness
   sound_ready h =
       let a = refuse_not (not (valid_of m)) InvalidMachine _ (sym ef ∙ h) in
       let b = refuse_not (not (eqb (length mem) 131072)) MemoryLength _ a.1 in
-      let c = refuse_not (not (both (leb n.standing n.total) (leb n.total cap))) CountsDisagree Accepted b.1 in
+      let c = refuse_not (not (both (leb n.standing n.total) (leb n.total cap))) CountsDisagree accepted b.1 in
       let d = both_true _ _ (not_flip _ c.0) in
       record { capped = ecap; area = eqb-true _ _ (not_flip _ b.0); ordered = leb-true _ _ d.0; within = leb-true _ _ d.1 }
 
-  pub not_sound : (c : Call) (why : Refusal) (r : Done) → f ≡ Refused why → r ≡ refused_done why m n → result_of r mem log ≡ journal_call c (session_on m mem log n)
+  pub not_sound : (c : Call) (why : Refusal) (r : Done) → f ≡ Err why → r ≡ refused_done why m n → result_of r mem log ≡ journal_call c (session_on m mem log n)
   unfolding journal_call
   not_sound c why r h er = rw er (sym (ap (λ (a : Answer). if_accepted a (session_on m mem log n) (called c (session_on m mem log n))) (soundness_is ∙ h)))
 
-  pub is_sound : (c : Call) (x : CallResult) → f ≡ Accepted → x ≡ called c (session_on m mem log n) → x ≡ journal_call c (session_on m mem log n)
+  pub is_sound : (c : Call) (x : CallResult) → f ≡ accepted → x ≡ called c (session_on m mem log n) → x ≡ journal_call c (session_on m mem log n)
   unfolding journal_call
   is_sound c x h q = q ∙ sym (ap (λ (a : Answer). if_accepted a (session_on m mem log n) (called c (session_on m mem log n))) (soundness_is ∙ h))
 

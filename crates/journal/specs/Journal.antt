@@ -3,10 +3,8 @@ use Rattle.std.specs.Prelude.{ℕ, List, not, length, replicate, leb, eqb}
 use Rattle.slices.specs.Choose.{both}
 use Rattle.spectrum.specs.declared.Machine.{Machine}
 use Rattle.numbers.specs.declared.Refusal.TheVariants.{InvalidMachine, MemoryLength, CountsDisagree}
-use Rattle.numbers.specs.declared.Answer.{Answer}
-use Rattle.numbers.specs.declared.Answer.TheVariants.{Accepted}
+use Rattle.numbers.specs.Numbers.{Answer, accepted, refuse}
 use Rattle.spectrum.specs.State.{State}
-use Rattle.numbers.specs.Numbers.{refuse}
 use Rattle.spectrum.specs.Valid.{valid_of}
 use Rattle.z80read.specs.Read.{ReadResult, read_of}
 use Rattle.scs_read.specs.ScsReads.{scs_read_of}
@@ -21,7 +19,7 @@ unfoldable pub soundness : Machine → ℕ → ℕ → ℕ → ℕ → Answer
 soundness m area cap standing total =
     refuse (not (valid_of m)) InvalidMachine
     (refuse (not (eqb area 131072)) MemoryLength
-    (refuse (not (both (leb standing total) (leb total cap))) CountsDisagree Accepted))
+    (refuse (not (both (leb standing total) (leb total cap))) CountsDisagree accepted))
 
 abbrev pub if_sound : Session → CallResult → CallResult
 if_sound d x = if_accepted (soundness d.state.machine (length d.state.memory) (capacity (length d.log)) d.standing d.total) d x

@@ -59,8 +59,8 @@ pub fn call_on(m: Machine, memory: &mut [u8], log: &mut [u8], n: Counts, call: C
     let capacity = log_steps::capacity_of(log);
     let first = soundness_of(m, memory.len(), capacity, n);
     match first {
-        Answer::Refused(why) => return Done::refused(why, m, n),
-        Answer::Accepted => return five_calls::sound_call(m, memory, log, n, capacity, call),
+        Err(why) => return Done::refused(why, m, n),
+        Ok(()) => return five_calls::sound_call(m, memory, log, n, capacity, call),
     }
 }
 
@@ -70,15 +70,15 @@ fn soundness_of(m: Machine, area: usize, capacity: usize, n: Counts) -> Answer
 {
     if m.valid() {
         if area != 131072 {
-            return Answer::Refused(Refusal::MemoryLength);
+            return Err(Refusal::MemoryLength);
         }
         if n.standing <= n.total {
             if n.total <= capacity {
-                return Answer::Accepted;
+                return Ok(());
             }
-            return Answer::Refused(Refusal::CountsDisagree);
+            return Err(Refusal::CountsDisagree);
         }
-        return Answer::Refused(Refusal::CountsDisagree);
+        return Err(Refusal::CountsDisagree);
     }
-    Answer::Refused(Refusal::InvalidMachine)
+    Err(Refusal::InvalidMachine)
 }

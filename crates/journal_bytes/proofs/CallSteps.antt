@@ -5,8 +5,8 @@ use mathlib.Core.Path.{◌≡◌, refl, ap, ◌∙◌}
 use mathlib.Core.Bool.{true, false}
 use mathlib.Core.List.{List, ◌++◌, append-nil}
 use lib.ListN.{length, drop, drop_of_length-le}
+use Rattle.std.specs.Prelude.{Err}
 use Rattle.spectrum.specs.declared.Machine.{Machine}
-use Rattle.numbers.specs.declared.Answer.TheVariants.{Refused}
 use Rattle.numbers.specs.declared.Refusal.TheVariants.{InvalidMachine}
 use Rattle.numbers.specs.Numbers.{number_of}
 use Rattle.header_canonical.specs.declared.DecodedHeader.{DecodedHeader}
@@ -23,7 +23,7 @@ pub header_back : (m : Machine) (head made : List ℕ) → length head ≡ 86 �
 header_back m head made l e = e ∙ ap (λ (x : List ℕ). header_of m ++ x) (drop_of_length-le head {i = 86} (omega arith)) ∙ append-nil (header_of m)
 
 module _ (c : Call) (head area log : List ℕ) (s t : ℕ) (k : DecodedHeader) (e : k ≡ decoded_of head) where
-  pub call_refused : (r : ℕ) → k.canonical ≡ false → r ≡ number_of (Refused InvalidMachine)
+  pub call_refused : (r : ℕ) → k.canonical ≡ false → r ≡ number_of (Err InvalidMachine)
       → CallLeaves (snap_call c (buffers head area log s t)) r (buffers head area log s t)
   unfolding over_bytes
   call_refused r h q = rw (← e, h) (record { answer = q; left = refl })

@@ -7,7 +7,7 @@ ghost use Rattle.journal_bytes.specs.Calls.{buffers_in, buffers_out, snap_call, 
 ghost use Rattle.journal_bytes.specs.Inner.{PutBack};
 
 use five_calls::Call;
-use numbers::{Answer, Refusal};
+use numbers::Refusal;
 use session::{Counts, Done};
 
 // A log just started.
@@ -17,7 +17,7 @@ pub fn start(log: &mut [u8], standing: &mut u64, total: &mut u64) -> u32
     let counts = journal::start(log);
     *standing = counts.standing as u64;
     *total = counts.total as u64;
-    numbers::number(Answer::Accepted)
+    numbers::number(Ok(()))
 }
 
 // Any one call.
@@ -41,7 +41,7 @@ pub fn call(
         let done = journal::call_on(m, area, log, n, call);
         return put_back(head, standing, total, done);
     }
-    numbers::number(Answer::Refused(Refusal::InvalidMachine))
+    numbers::number(Err(Refusal::InvalidMachine))
 }
 
 // The machine's header, the two numbers and the number of the answer, from what a call gave.

@@ -6,9 +6,9 @@ use mathlib.Core.List.{List}
 use lib.ListN.{get_or}
 use native.Mathlib.Omega.{arith}
 use borrow.Author.Tests.{lt-ltb, le-ltb}
-use Rattle.numbers.specs.declared.Answer.TheVariants.{Accepted, Refused}
+use Rattle.std.specs.Prelude.{Err}
+use Rattle.numbers.specs.Numbers.{accepted, number_of}
 use Rattle.numbers.specs.declared.Refusal.TheVariants.{InvalidMachine, PairNumber}
-use Rattle.numbers.specs.Numbers.{number_of}
 use Rattle.pages.specs.declared.Model.{Model}
 use Rattle.pages.specs.declared.Place.{Place}
 use Rattle.pages.specs.declared.Place.TheVariants.{Rom, Ram}
@@ -27,7 +27,7 @@ module _ (k : Model) (out a : ℕ) (f : Place) (e : f ≡ place_of k out a) (h :
   place_offset_fits = let i = place_inside k out a p o h (sym e ∙ q) in omega (arith, i.low)
 
 module _ (head : List ℕ) (k : DecodedHeader) (e : k ≡ decoded_of head) (r : ℕ) where
-  module _ (h : k.canonical ≡ false) (q : r ≡ number_of (Refused InvalidMachine)) where
+  module _ (h : k.canonical ≡ false) (q : r ≡ number_of (Err InvalidMachine)) where
     pub model_refused : TellsModel (model_of head) r 0 0
     unfolding model_of
     model_refused = rw (← e, h) (record { answer = q; model = refl; attachment = refl })
@@ -41,11 +41,11 @@ module _ (head : List ℕ) (k : DecodedHeader) (e : k ≡ decoded_of head) (r : 
     place_refused a = rw (← e, h) (record { answer = q; rom = refl; page = refl; offset = refl })
 
   module _ (h : k.canonical ≡ true) where
-    pub no_pair : (p : ℕ) → 11 < p → r ≡ number_of (Refused PairNumber) → TellsPair (pair_of head p) r 0
+    pub no_pair : (p : ℕ) → 11 < p → r ≡ number_of (Err PairNumber) → TellsPair (pair_of head p) r 0
     unfolding pair_of
     no_pair p b q = rw (← e, h, lt-ltb 11 p b) (record { answer = q; value = refl })
 
-    module _ (q : r ≡ number_of Accepted) where
+    module _ (q : r ≡ number_of accepted) where
       pub model_told : (m a : ℕ) → m ≡ model_number k.machine.model → a ≡ attachment_number k.machine.attachment → TellsModel (model_of head) r m a
       unfolding model_of
       model_told m a em ea = rw (← e, h) (record { answer = q; model = em; attachment = ea })

@@ -4,7 +4,7 @@
 ghost use Rattle.std.specs.Prelude.{◌≡◌};
 ghost use Rattle.machine_bytes.specs.Looks.{model_number, attachment_number, model_of, TellsModel, pair_of, TellsPair, address_of, TellsPlace};
 
-use numbers::{Answer, Refusal};
+use numbers::Refusal;
 use pages::{Model, Place};
 use spectrum::Attachment;
 
@@ -21,9 +21,9 @@ pub fn model(head: &[u8], kind: &mut u8, attachment: &mut u8) -> u32
         let attached = m.attachment;
         *kind = model_number(model);
         *attachment = attachment_number(attached);
-        return numbers::number(Answer::Accepted);
+        return numbers::number(Ok(()));
     }
-    numbers::number(Answer::Refused(Refusal::InvalidMachine))
+    numbers::number(Err(Refusal::InvalidMachine))
 }
 
 // A register pair's value.
@@ -34,13 +34,13 @@ pub fn pair(head: &[u8], number: u8, value: &mut u16) -> u32
     let decoded = header_canonical::decode_header(head);
     if decoded.canonical {
         if 11 < number {
-            return numbers::number(Answer::Refused(Refusal::PairNumber));
+            return numbers::number(Err(Refusal::PairNumber));
         }
         let m = decoded.machine;
         *value = m.pair(number as usize);
-        return numbers::number(Answer::Accepted);
+        return numbers::number(Ok(()));
     }
-    numbers::number(Answer::Refused(Refusal::InvalidMachine))
+    numbers::number(Err(Refusal::InvalidMachine))
 }
 
 // Where an address leads as paging is now.
@@ -57,16 +57,16 @@ pub fn place(head: &[u8], address: u16, in_rom: &mut u8, page: &mut u8, offset: 
         match found {
             Place::Rom => {
                 *in_rom = 1;
-                return numbers::number(Answer::Accepted);
+                return numbers::number(Ok(()));
             }
             Place::Ram { page: p, offset: o } => {
                 *page = p as u8;
                 *offset = o as u16;
-                return numbers::number(Answer::Accepted);
+                return numbers::number(Ok(()));
             }
         }
     }
-    numbers::number(Answer::Refused(Refusal::InvalidMachine))
+    numbers::number(Err(Refusal::InvalidMachine))
 }
 
 fn model_number(model: Model) -> u8

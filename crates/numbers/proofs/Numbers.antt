@@ -3,11 +3,10 @@ use Prim.Native.Nat.{ℕ, ◌<◌}
 use mathlib.Core.Path.{◌≡◌, refl}
 use mathlib.Core.Bool.{Bool, true, false}
 use native.Mathlib.Omega.{arith}
+use Rattle.std.specs.Prelude.{Ok, Err}
 use Rattle.numbers.specs.declared.Refusal.{Refusal}
 use Rattle.numbers.specs.declared.Refusal.TheVariants.{AreaLength, FileShort, UnknownVersion, ModeNotCarried, InterruptMode, CounterRange, Byte60, BlockCut, BlockNumber, BlockTwice, MalformedData, UnpackedLength, BlockMissing, EndMarker, InvalidMachine, MemoryLength, OutputShort, RomAddress, OutOn48k, PagingLocked, JournalFull, NothingToMove, StepDamaged, CountsDisagree, PageNotOwned, RomLength, PairNumber, ScsHeader, ScsBlockMissing, ScsBlockTwice, ScsMemoryNotFirst}
-use Rattle.numbers.specs.declared.Answer.{Answer}
-use Rattle.numbers.specs.declared.Answer.TheVariants.{Accepted, Refused}
-use Rattle.numbers.specs.Numbers.{refusal_number, number_of, refuse}
+use Rattle.numbers.specs.Numbers.{Answer, accepted, refusal_number, number_of, refuse}
 
 -- the numbers of refusals are bytes, and none is 0
 number_in : (why : Refusal) → (0 < refusal_number why) × (refusal_number why < 256)
@@ -43,18 +42,18 @@ number_in ScsBlockMissing = (omega arith, omega arith)
 number_in ScsBlockTwice = (omega arith, omega arith)
 number_in ScsMemoryNotFirst = (omega arith, omega arith)
 
-pub number_0 : (a : Answer) → number_of a ≡ 0 → a ≡ Accepted
-number_0 Accepted e = refl
-number_0 (Refused why) e = absurd (omega (arith, (number_in why).0))
+pub number_0 : (a : Answer) → number_of a ≡ 0 → a ≡ accepted
+number_0 (Ok u) e = refl
+number_0 (Err why) e = absurd (omega (arith, (number_in why).0))
 
 pub number_small : (a : Answer) → number_of a < 256
-number_small Accepted = omega arith
-number_small (Refused why) = (number_in why).1
+number_small (Ok u) = omega arith
+number_small (Err why) = (number_in why).1
 
 -- a refusal is not an acceptance
-pub refused_not : (why : Refusal) → Refused why ≡ Accepted → ⊥
+pub refused_not : (why : Refusal) → Err why ≡ accepted → ⊥
 refused_not why p = let z : ◌≡◌ {A = ℕ} 0 1 = cc in omega arith
 
-pub refuse_not : (t : Bool) (w : Refusal) (a : Answer) → refuse t w a ≡ Accepted → (t ≡ false) × (a ≡ Accepted)
+pub refuse_not : (t : Bool) (w : Refusal) (a : Answer) → refuse t w a ≡ accepted → (t ≡ false) × (a ≡ accepted)
 refuse_not true w a e = absurd (refused_not w e)
 refuse_not false w a e = (refl, e)

@@ -1,9 +1,7 @@
 -- Document 01, "Numbers a caller gets"; 40 to 43 are document 02's: "Numbers added here and in later requests join document 01's table."
-use Rattle.std.specs.Prelude.{ℕ, Bool, true, false}
+use Rattle.std.specs.Prelude.{ℕ, Bool, true, false, Result, Ok, Err}
 use Rattle.numbers.specs.declared.Refusal.{Refusal}
 use Rattle.numbers.specs.declared.Refusal.TheVariants.{AreaLength, FileShort, UnknownVersion, ModeNotCarried, InterruptMode, CounterRange, Byte60, BlockCut, BlockNumber, BlockTwice, MalformedData, UnpackedLength, BlockMissing, EndMarker, InvalidMachine, MemoryLength, OutputShort, RomAddress, OutOn48k, PagingLocked, JournalFull, NothingToMove, StepDamaged, CountsDisagree, PageNotOwned, RomLength, PairNumber, ScsHeader, ScsBlockMissing, ScsBlockTwice, ScsMemoryNotFirst}
-use Rattle.numbers.specs.declared.Answer.{Answer}
-use Rattle.numbers.specs.declared.Answer.TheVariants.{Accepted, Refused}
 
 abbrev pub refusal_number : Refusal → ℕ
 refusal_number AreaLength = 1
@@ -38,12 +36,19 @@ refusal_number ScsBlockMissing = 41
 refusal_number ScsBlockTwice = 42
 refusal_number ScsMemoryNotFirst = 43
 
+-- accepted, or refused with `Err` and why
+abbrev pub Answer : Type 0
+Answer = Result (Unit {0}) Refusal
+
+abbrev pub accepted : Answer
+accepted = Ok (record {})
+
 -- 0 is accepted
 abbrev pub number_of : Answer → ℕ
-number_of Accepted = 0
-number_of (Refused why) = refusal_number why
+number_of (Ok u) = 0
+number_of (Err why) = refusal_number why
 
 -- refused where a test holds, else what follows: "the first number of its order that holds"
 abbrev pub refuse : Bool → Refusal → Answer → Answer
-refuse true why a = Refused why
+refuse true why a = Err why
 refuse false why a = a

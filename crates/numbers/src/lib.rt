@@ -2,50 +2,47 @@
 #![tactic(auto)]
 
 ghost use Rattle.std.specs.Prelude.{◌≡◌};
-ghost use Rattle.numbers.specs.Numbers.{number_of, refusal_number};
+ghost use Rattle.numbers.specs.Numbers.{number_of};
 ghost use Rattle.numbers.specs.Faults.{fault_in, with_figures, length_fault, unplaced};
 
-// Why a call is refused, in the order of the table.
+// Why a call is refused, with its number in the table.
 #[derive(Clone, Copy)]
 pub enum Refusal {
-    AreaLength,
-    FileShort,
-    UnknownVersion,
-    ModeNotCarried,
-    InterruptMode,
-    CounterRange,
-    Byte60,
-    BlockCut,
-    BlockNumber,
-    BlockTwice,
-    MalformedData,
-    UnpackedLength,
-    BlockMissing,
-    EndMarker,
-    InvalidMachine,
-    MemoryLength,
-    OutputShort,
-    RomAddress,
-    OutOn48k,
-    PagingLocked,
-    JournalFull,
-    NothingToMove,
-    StepDamaged,
-    CountsDisagree,
-    PageNotOwned,
-    RomLength,
-    PairNumber,
-    ScsHeader,
-    ScsBlockMissing,
-    ScsBlockTwice,
-    ScsMemoryNotFirst,
+    AreaLength = 1,
+    FileShort = 2,
+    UnknownVersion = 3,
+    ModeNotCarried = 4,
+    InterruptMode = 5,
+    CounterRange = 6,
+    Byte60 = 7,
+    BlockCut = 8,
+    BlockNumber = 9,
+    BlockTwice = 10,
+    MalformedData = 11,
+    UnpackedLength = 12,
+    BlockMissing = 13,
+    EndMarker = 14,
+    InvalidMachine = 20,
+    MemoryLength = 21,
+    OutputShort = 22,
+    RomAddress = 23,
+    OutOn48k = 24,
+    PagingLocked = 25,
+    JournalFull = 26,
+    NothingToMove = 27,
+    StepDamaged = 28,
+    CountsDisagree = 29,
+    PageNotOwned = 30,
+    RomLength = 31,
+    PairNumber = 32,
+    ScsHeader = 40,
+    ScsBlockMissing = 41,
+    ScsBlockTwice = 42,
+    ScsMemoryNotFirst = 43,
 }
 
-#[derive(Clone, Copy)]
-pub enum Answer {
-    Accepted,
-    Refused(Refusal),
-}
+// The answer of a call: accepted, or why it is refused.
+pub type Answer = Result<(), Refusal>;
 
 // Why a file is refused; the place in it that is named, an offset in the whole file, 0 where none is; the block from 1 on, 0 where none is;
 // and two figures, what was found and what is due, 0 and 0 where the number has none.
@@ -116,45 +113,7 @@ pub fn number(answer: Answer) -> u32
     ensures { result ≡ number_of answer }
 {
     match answer {
-        Answer::Accepted => 0,
-        Answer::Refused(why) => refusal_number(why),
-    }
-}
-
-fn refusal_number(why: Refusal) -> u32
-    ensures { result ≡ refusal_number why }
-{
-    match why {
-        Refusal::AreaLength => 1,
-        Refusal::FileShort => 2,
-        Refusal::UnknownVersion => 3,
-        Refusal::ModeNotCarried => 4,
-        Refusal::InterruptMode => 5,
-        Refusal::CounterRange => 6,
-        Refusal::Byte60 => 7,
-        Refusal::BlockCut => 8,
-        Refusal::BlockNumber => 9,
-        Refusal::BlockTwice => 10,
-        Refusal::MalformedData => 11,
-        Refusal::UnpackedLength => 12,
-        Refusal::BlockMissing => 13,
-        Refusal::EndMarker => 14,
-        Refusal::InvalidMachine => 20,
-        Refusal::MemoryLength => 21,
-        Refusal::OutputShort => 22,
-        Refusal::RomAddress => 23,
-        Refusal::OutOn48k => 24,
-        Refusal::PagingLocked => 25,
-        Refusal::JournalFull => 26,
-        Refusal::NothingToMove => 27,
-        Refusal::StepDamaged => 28,
-        Refusal::CountsDisagree => 29,
-        Refusal::PageNotOwned => 30,
-        Refusal::RomLength => 31,
-        Refusal::PairNumber => 32,
-        Refusal::ScsHeader => 40,
-        Refusal::ScsBlockMissing => 41,
-        Refusal::ScsBlockTwice => 42,
-        Refusal::ScsMemoryNotFirst => 43,
+        Ok(()) => 0,
+        Err(why) => why as u32,
     }
 }

@@ -4,7 +4,7 @@ use mathlib.Core.Path.{◌≡◌}
 use mathlib.Core.Bool.{true, false}
 use mathlib.Core.List.{List, ◌++◌}
 use lib.ListN.{length, drop, replicate}
-use Rattle.numbers.specs.declared.Answer.TheVariants.{Refused}
+use Rattle.std.specs.Prelude.{Err}
 use Rattle.numbers.specs.declared.Refusal.TheVariants.{InvalidMachine}
 use Rattle.numbers.specs.Numbers.{number_of}
 use Rattle.header_canonical.specs.declared.DecodedHeader.{DecodedHeader}
@@ -22,7 +22,7 @@ use Rattle.scs_bytes.specs.ScsBytes.{scs_read_of_bytes, scs_write_of_bytes}
 
 module _ (file before head : List ℕ) (r place : ℕ) where
   pub scs_read_other : (area zeros : List ℕ) → (length head ≡ 86 → ⊥) → area ≡ replicate (length before) 0 → zeros ≡ replicate (length head) 0
-      → place ≡ 0 → r ≡ number_of (Refused InvalidMachine) → ReadsBytes (scs_read_of_bytes file (length before) (length head)) r place area zeros
+      → place ≡ 0 → r ≡ number_of (Err InvalidMachine) → ReadsBytes (scs_read_of_bytes file (length before) (length head)) r place area zeros
   unfolding scs_read_of_bytes
   scs_read_other area zeros h a z l e = through_other (scs_read_of file (length before)) before head r place area zeros h a z l e
 
@@ -37,7 +37,7 @@ module _ (head area before : List ℕ) (r size : ℕ) (out : List ℕ) (t : Deco
   unfolding scs_write_of_bytes
   scs_write_taken w c g s e = rw (← et) (through_taken (scs_written_of t.machine area (length before)) t (length before) r size out w c g s e)
 
-  pub scs_write_other : t.canonical ≡ false → out ≡ replicate (length before) 0 → size ≡ 0 → r ≡ number_of (Refused InvalidMachine)
+  pub scs_write_other : t.canonical ≡ false → out ≡ replicate (length before) 0 → size ≡ 0 → r ≡ number_of (Err InvalidMachine)
       → WritesBytes (scs_write_of_bytes head area (length before)) r size out
   unfolding scs_write_of_bytes
   scs_write_other c z s e = rw (← et) (through_none (scs_written_of t.machine area (length before)) t (length before) r size out c z s e)

@@ -5,7 +5,7 @@ ghost use Rattle.std.specs.Prelude.{length};
 ghost use Rattle.file_bytes.specs.Files.{ReadsBytes, WritesBytes};
 ghost use Rattle.scs_bytes.specs.ScsBytes.{scs_read_of_bytes, scs_write_of_bytes};
 
-use numbers::{Answer, Refusal};
+use numbers::Refusal;
 
 // An SCS file into an area of 131,072 bytes and a header of 86; the offset in the file that is named with the number, or 0.
 pub fn read(file: &[u8], area: &mut [u8], head: &mut [u8], offset: &mut u64) -> u32
@@ -15,7 +15,7 @@ pub fn read(file: &[u8], area: &mut [u8], head: &mut [u8], offset: &mut u64) -> 
         slices::fill(area, 0);
         slices::fill(head, 0);
         *offset = 0;
-        return numbers::number(Answer::Refused(Refusal::InvalidMachine));
+        return numbers::number(Err(Refusal::InvalidMachine));
     }
     let opened = scs_read::read(file, area);
     let m = opened.machine;
@@ -40,5 +40,5 @@ pub fn write(head: &[u8], area: &[u8], out: &mut [u8], size: &mut u64) -> u32
     }
     slices::fill(out, 0);
     *size = 0;
-    numbers::number(Answer::Refused(Refusal::InvalidMachine))
+    numbers::number(Err(Refusal::InvalidMachine))
 }

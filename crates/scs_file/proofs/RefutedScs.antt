@@ -4,12 +4,12 @@ use mathlib.Core.Path.{◌≡◌, refl, sym, ap, ◌∙◌}
 use mathlib.Core.List.{List, ◌++◌}
 use native.Mathlib.Omega.{arith}
 use lib.ListN.{length, take}
+use Rattle.std.specs.Prelude.{Err}
 use Rattle.slices.specs.Blank.{blank}
 use Rattle.pages.specs.declared.Model.TheVariants.{K128}
 use Rattle.spectrum.specs.declared.Machine.{Machine}
 use Rattle.spectrum.specs.Machine.{with_out}
 use Rattle.numbers.specs.declared.Refusal.TheVariants.{FileShort, ScsMemoryNotFirst}
-use Rattle.numbers.specs.declared.Answer.TheVariants.{Refused}
 use Rattle.numbers.proofs.Numbers.{refused_not}
 use Rattle.z80read.specs.Read.{ReadResult}
 use Rattle.z80write.specs.Written.{WriteResult}
@@ -47,7 +47,7 @@ refuted_scs_fixed fixed h =
     omega arith
 
 -- a header alone is refused
-header_only : (scs_read_of (scs_header K128) 131072).answer ≡ Refused ScsMemoryNotFirst
+header_only : (scs_read_of (scs_header K128) 131072).answer ≡ Err ScsMemoryNotFirst
 unfolding scs_read_of scs_head_of
 header_only = refl
 

@@ -10,7 +10,7 @@ use lib.Dec.{eqb, ltb}
 use borrow.Author.Tests.{eqb-true, eqb-false, ltb-true, ltb-false}
 use Rattle.slices.proofs.Chosen.{either}
 use Rattle.pages.specs.declared.Model.{Model}
-use Rattle.numbers.specs.declared.Answer.TheVariants.{Accepted}
+use Rattle.numbers.specs.Numbers.{accepted}
 use Rattle.numbers.proofs.Numbers.{refused_not}
 use Rattle.spectrum.specs.Valid.{Typed}
 use Rattle.z80read.specs.Read.{ReadResult, accepted_read}
@@ -46,7 +46,7 @@ record ScsTaken (s : List ℕ) (n : ℕ) (o : ReadResult) : Type 0 where
 
 module _ (s : List ℕ) (n : ℕ) where
   abbrev IfTaken : ReadResult → Type 0
-  IfTaken o = o.answer ≡ Accepted → ScsTaken s n o
+  IfTaken o = o.answer ≡ accepted → ScsTaken s n o
 
   found_taken : (model : Model) (f : ScsFound) → n ≡ 131072 → IfTaken (after_found f model s n)
   found_taken model (Bad fault) w a = absurd (refused_not fault.why a)
@@ -68,7 +68,7 @@ clean_is : (model : Model) (cpu ports xs : List ℕ) → Clean (scs_machine mode
 unfolding scs_machine
 clean_is model cpu ports xs = clean_scs_memory model xs
 
-pub scs_start : (s : List ℕ) (n : ℕ) → (scs_read_of s n).answer ≡ Accepted → ReadGives (scs_read_of s n).machine (scs_read_of s n).memory n
+pub scs_start : (s : List ℕ) (n : ℕ) → (scs_read_of s n).answer ≡ accepted → ReadGives (scs_read_of s n).machine (scs_read_of s n).memory n
 scs_start s n a =
     let t = scs_taken s n a in
     subst (λ (o : ReadResult). ReadGives o.machine o.memory n) (sym t.is)
@@ -97,19 +97,19 @@ data_bytes s (Stands from size) h i = go (ltb i size) refl
     go true e = rw (get_or-take size (drop from s) i 0 (ltb-true i size e), get_or-drop from s i 0) (h _)
     go false e = let k = ltb-false i size e in rw (get_or-eq_default (take size (drop from s)) 0 {n = i} (simp length-take (omega arith))) (omega arith)
 
-pub scs_read_typed : (s : List ℕ) (n : ℕ) → ((i : ℕ) → get_or s i 0 < 256) → (scs_read_of s n).answer ≡ Accepted → Typed (scs_read_of s n).machine
+pub scs_read_typed : (s : List ℕ) (n : ℕ) → ((i : ℕ) → get_or s i 0 < 256) → (scs_read_of s n).answer ≡ accepted → Typed (scs_read_of s n).machine
 scs_read_typed s n h a =
     let t = scs_taken s n a in
     let b : (k : ℕ) (p : ScsPart) → Bytes (zero_filled k (data_of s p)) = λ k p. filled_bytes k (data_of s p) (data_bytes s p h) in
     subst (λ (o : ReadResult). Typed o.machine) (sym t.is) (scs_typed t.model _ _ (b 34 t.cpu) (b 19 t.ports) (filled_long 19 (data_of s t.ports)))
 
 -- SCS keeps all of a machine that it gave
-pub scs_kept_all : (s : List ℕ) (n : ℕ) → (scs_read_of s n).answer ≡ Accepted → scs_keeps (scs_read_of s n).machine ≡ (scs_read_of s n).machine
+pub scs_kept_all : (s : List ℕ) (n : ℕ) → (scs_read_of s n).answer ≡ accepted → scs_keeps (scs_read_of s n).machine ≡ (scs_read_of s n).machine
 scs_kept_all s n a =
     let t = scs_taken s n a in
     ap (λ (x : ReadResult). scs_keeps x.machine) t.is ∙ keeps_read t.model _ _ ∙ sym (ap (λ (x : ReadResult). x.machine) t.is)
 
-pub scs_again : (s : List ℕ) (n : ℕ) → ((i : ℕ) → get_or s i 0 < 256) → (scs_read_of s n).answer ≡ Accepted
+pub scs_again : (s : List ℕ) (n : ℕ) → ((i : ℕ) → get_or s i 0 < 256) → (scs_read_of s n).answer ≡ accepted
     → scs_read_of (scs_file_of (scs_read_of s n).machine (scs_read_of s n).memory) 131072 ≡ scs_read_of s n
 scs_again s n h a =
     let o = scs_read_of s n in

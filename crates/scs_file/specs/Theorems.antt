@@ -1,7 +1,7 @@
 -- What is claimed of SCS files beyond the contracts of `read` and `write`.
 use Rattle.std.specs.Prelude.{ℕ, ◌<◌, ◌≡◌, true, List, get_or}
 use Rattle.spectrum.specs.declared.Machine.{Machine}
-use Rattle.numbers.specs.declared.Answer.TheVariants.{Accepted}
+use Rattle.numbers.specs.Numbers.{accepted}
 use Rattle.spectrum.specs.Valid.{Typed, valid_of}
 use Rattle.z80file.specs.Clean.{Clean, ReadGives}
 use Rattle.z80file.specs.WrongFiles.{refuses_files}
@@ -22,10 +22,10 @@ pub record Theorems : Type 0 where
   pub scs_file_back : (m : Machine) (area : List ℕ) → Typed m → valid_of m ≡ true → Clean m.model area
       → scs_read_of (scs_file_of m area) 131072 ≡ accepted_read (scs_keeps m) area
   -- what reading accepts is valid, and its unused pages are zero; it is as the types of the code say: a start
-  pub scs_start : (s : List ℕ) (n : ℕ) → (scs_read_of s n).answer ≡ Accepted → ReadGives (scs_read_of s n).machine (scs_read_of s n).memory n
-  pub scs_read_typed : (s : List ℕ) (n : ℕ) → ((i : ℕ) → get_or s i 0 < 256) → (scs_read_of s n).answer ≡ Accepted → Typed (scs_read_of s n).machine
+  pub scs_start : (s : List ℕ) (n : ℕ) → (scs_read_of s n).answer ≡ accepted → ReadGives (scs_read_of s n).machine (scs_read_of s n).memory n
+  pub scs_read_typed : (s : List ℕ) (n : ℕ) → ((i : ℕ) → get_or s i 0 < 256) → (scs_read_of s n).answer ≡ accepted → Typed (scs_read_of s n).machine
   -- SCS keeps all that SCS reads: written again as SCS and read again, it is the same
-  pub scs_again : (s : List ℕ) (n : ℕ) → ((i : ℕ) → get_or s i 0 < 256) → (scs_read_of s n).answer ≡ Accepted
+  pub scs_again : (s : List ℕ) (n : ℕ) → ((i : ℕ) → get_or s i 0 < 256) → (scs_read_of s n).answer ≡ accepted
       → scs_read_of (scs_file_of (scs_read_of s n).machine (scs_read_of s n).memory) 131072 ≡ scs_read_of s n
   -- the blocks of a valid machine give back what SCS keeps of it
   pub machine_kept : (m : Machine) → Typed m → valid_of m ≡ true → scs_machine m.model (scs_cpu m) (scs_ports m) ≡ scs_keeps m

@@ -8,7 +8,7 @@ use Rattle.slices.specs.Bytes.{at}
 use Rattle.pages.specs.declared.Model.{Model}
 use Rattle.spectrum.specs.declared.Machine.{Machine}
 use Rattle.numbers.specs.declared.Refusal.TheVariants.{InterruptMode, ScsBlockMissing}
-use Rattle.numbers.specs.declared.Answer.TheVariants.{Accepted}
+use Rattle.numbers.specs.Numbers.{accepted}
 use Rattle.numbers.specs.declared.FileFault.{FileFault}
 use Rattle.numbers.specs.Faults.{unplaced}
 use Rattle.z80read.specs.declared.Opened.{Opened}
@@ -28,5 +28,5 @@ module _ (seen : ScsSeen) (model : Model) (s : List ℕ) (n : ℕ) (r : Opened) 
     loads_mode fault m f h = rw (← e, q, ← ec, eq-eqb (at cpu 26 % 4) 3 m) (subst (λ (x : FileFault). ReadLeaves (refused_read x n) r after) f h)
 
     pub loads_all : (ports memory : List ℕ) (machine : Machine) → (at cpu 26 % 4 ≡ 3 → ⊥) → ports ≡ zero_filled 19 (data_of s seen.ports) → memory ≡ data_of s seen.memory → after ≡ scs_memory model memory
-        → machine ≡ scs_machine model cpu ports → r.answer ≡ Accepted → r.place ≡ 0 → r.machine ≡ machine → ReadLeaves (after_seen seen model s n) r after
+        → machine ≡ scs_machine model cpu ports → r.answer ≡ accepted → r.place ≡ 0 → r.machine ≡ machine → ReadLeaves (after_seen seen model s n) r after
     loads_all ports memory machine m ep ed ea em ra rp rm = rw (← e, q, ← ec, ne_eqb (at cpu 26 % 4) 3 m, ← ep) (record { answer = ra; place = rp; machine = rm ∙ em; memory = ea ∙ ap (scs_memory model) ed })

@@ -12,7 +12,7 @@ use Rattle.numbers.specs.declared.Refusal.{Refusal}
 use Rattle.numbers.specs.declared.FileFault.{FileFault}
 use Rattle.numbers.specs.Faults.{unplaced}
 use Rattle.numbers.specs.declared.Refusal.TheVariants.{AreaLength}
-use Rattle.numbers.specs.declared.Answer.TheVariants.{Accepted}
+use Rattle.numbers.specs.Numbers.{accepted}
 use Rattle.numbers.proofs.Numbers.{refused_not}
 use Rattle.spectrum.specs.Valid.{valid_of}
 use Rattle.z80read.specs.declared.Opened.{Opened}
@@ -33,10 +33,10 @@ refused_reads : (o : ReadResult) (fault : FileFault) (n : ℕ) (r : Opened) (are
 refused_reads o fault n r area e l = subst (λ (x : ReadResult). Reads x r area) e (record { leaves = l; valid = λ a. absurd (refused_not fault.why (sym l.answer ∙ a)) })
 
 -- what is loaded is valid where it is accepted
-loaded_valid : (seen : ScsSeen) (model : Model) (s : List ℕ) (n : ℕ) → (after_seen seen model s n).answer ≡ Accepted → valid_of (after_seen seen model s n).machine ≡ true
+loaded_valid : (seen : ScsSeen) (model : Model) (s : List ℕ) (n : ℕ) → (after_seen seen model s n).answer ≡ accepted → valid_of (after_seen seen model s n).machine ≡ true
 loaded_valid seen model s n =
     let cpu = zero_filled 34 (data_of s seen.cpu) in
-    let P : ReadResult → Type 0 = λ o. o.answer ≡ Accepted → valid_of o.machine ≡ true in
+    let P : ReadResult → Type 0 = λ o. o.answer ≡ accepted → valid_of o.machine ≡ true in
     either P (three_seen seen) _ _
     (λ t. either P (eqb (scs_mode cpu) 3) _ _ (λ e a. absurd (refused_not _ a)) (λ e a. scs_valid model cpu (zero_filled 19 (data_of s seen.ports)) (eqb-false _ _ e)))
     (λ t a. absurd (refused_not _ a))

@@ -7,7 +7,7 @@ ghost use Rattle.z80read.specs.Read.{refused_read, ReadLeaves, Reads};
 ghost use Rattle.scs_blocks.specs.ScsBlocks.{data_of, zero_filled};
 ghost use Rattle.scs_read.specs.ScsReads.{after_seen, scs_read_of};
 
-use numbers::{Answer, FileFault, Refusal};
+use numbers::{FileFault, Refusal};
 use pages::Model;
 use scs_blocks::{ScsFound, ScsPart, ScsSeen};
 use scs_head::ScsHead;
@@ -40,7 +40,7 @@ fn refused_scs(area: &mut [u8], fault: FileFault) -> Opened
     slices::fill(area, 0);
     let why = fault.why;
     Opened {
-        answer: Answer::Refused(why),
+        answer: Err(why),
         place: fault.place,
         machine: Machine::blank(),
     }
@@ -63,7 +63,7 @@ fn load(file: &[u8], model: Model, seen: ScsSeen, area: &mut [u8]) -> Opened
         scs_memory::load_memory(scs_blocks::data_of(file, memory_part), model, area);
         let machine = scs_machine::machine_from(model, cpu, ports);
         return Opened {
-            answer: Answer::Accepted,
+            answer: Ok(()),
             place: 0,
             machine: machine,
         };

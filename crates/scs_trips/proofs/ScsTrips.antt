@@ -8,7 +8,7 @@ use lib.Seq.{take_at}
 use lib.Dec.{eqb, leb}
 use borrow.Author.Tests.{leb-true, eqb-true}
 use Rattle.slices.proofs.Chosen.{either}
-use Rattle.numbers.specs.declared.Answer.TheVariants.{Accepted}
+use Rattle.numbers.specs.Numbers.{accepted}
 use Rattle.numbers.proofs.Numbers.{number_0, refused_not}
 use Rattle.spectrum.specs.declared.Machine.{Machine}
 use Rattle.spectrum.specs.Valid.{valid_of}
@@ -66,10 +66,10 @@ module _ (m : Machine) (head area : List ℕ) (n w size : ℕ) (out : List ℕ) 
       )
 
   -- an accepted write has the file's length
-  sized : (scs_written_of m area n).answer ≡ Accepted → (scs_written_of m area n).size ≡ 88 + memory_size m.model
+  sized : (scs_written_of m area n).answer ≡ accepted → (scs_written_of m area n).size ≡ 88 + memory_size m.model
   unfolding scs_written_of
   sized q =
-      let P : WriteResult → Type 0 = λ o. o.answer ≡ Accepted → o.size ≡ 88 + memory_size m.model in
+      let P : WriteResult → Type 0 = λ o. o.answer ≡ accepted → o.size ≡ 88 + memory_size m.model in
       either P (valid_of m) _ _
       (λ v. either P (eqb (length area) 131072) _ _
       (λ l. either P (leb (length (scs_file_of m area)) n) _ _ (λ h e. scs_file_long m area f.typed (eqb-true _ _ l)) (λ h e. absurd (refused_not _ e)))

@@ -9,7 +9,7 @@ use borrow.Author.Tests.{le-leb, lt-leb, eq-eqb, ne_eqb}
 use Rattle.pages.specs.declared.Model.{Model}
 use Rattle.pages.specs.declared.Model.TheVariants.{K48, K128}
 use Rattle.numbers.specs.declared.Refusal.TheVariants.{InvalidMachine, MemoryLength, OutputShort}
-use Rattle.numbers.specs.declared.Answer.TheVariants.{Accepted}
+use Rattle.numbers.specs.Numbers.{accepted}
 use Rattle.spectrum.specs.declared.Machine.{Machine}
 use Rattle.spectrum.specs.Valid.{Typed, valid_of}
 use Rattle.z80write.specs.declared.Written.{Written}
@@ -49,7 +49,7 @@ module _ (m : Machine) (area : List ℕ) (n : ℕ) (r : Written) (out : List ℕ
     unfolding scs_written_of
     scs_short s h = rw (← eb, q, eq-eqb (length area) 131072 l, lt-leb (length (scs_file_of m area)) n (omega (arith, long_is))) h
 
-    pub scs_done : 88 + k ≤ n → out ≡ scs_file_of m area ++ replicate (n - length (scs_file_of m area)) 0 → r ≡ record { answer = Accepted; length = 88 + k }
+    pub scs_done : 88 + k ≤ n → out ≡ scs_file_of m area ++ replicate (n - length (scs_file_of m area)) 0 → r ≡ record { answer = accepted; length = 88 + k }
         → Writes (scs_written_of m area n) r out
     scs_done s h e =
         rw (scs_fits m area n (sym eb ∙ q) l (omega (arith, long_is)))

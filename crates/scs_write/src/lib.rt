@@ -9,7 +9,7 @@ ghost use Rattle.scs_blocks.specs.ScsIdentity.{hardware_of};
 ghost use Rattle.scs_memory.specs.ScsMemory.{memory_size};
 ghost use Rattle.scs_write.specs.ScsWritten.{scs_header, size_bytes, scs_block, scs_file_of, scs_written_of};
 
-use numbers::{Answer, Refusal};
+use numbers::Refusal;
 use pages::Model;
 use spectrum::Machine;
 use z80write::Written;
@@ -30,7 +30,7 @@ pub fn write(m: Machine, area: &[u8], out: &mut [u8]) -> Written
         }
         lay_file(m, area, out);
         return Written {
-            answer: Answer::Accepted,
+            answer: Ok(()),
             length: length,
         };
     }
@@ -42,7 +42,7 @@ fn refused_scs_write(out: &mut [u8], why: Refusal) -> Written
 {
     slices::fill(out, 0);
     Written {
-        answer: Answer::Refused(why),
+        answer: Err(why),
         length: 0,
     }
 }

@@ -3,10 +3,9 @@ use Prim.Native.Nat.{ℕ}
 use mathlib.Core.Path.{◌≡◌, refl, sym, ap, ◌∙◌}
 use mathlib.Core.Bool.{Bool, true, false}
 use mathlib.Core.List.{List}
+use Rattle.std.specs.Prelude.{Ok, Err}
 use Rattle.slices.specs.Choose.{choose}
-use Rattle.numbers.specs.declared.Answer.{Answer}
-use Rattle.numbers.specs.declared.Answer.TheVariants.{Accepted, Refused}
-use Rattle.numbers.specs.Numbers.{number_of}
+use Rattle.numbers.specs.Numbers.{Answer, accepted, number_of}
 use Rattle.header_canonical.specs.Canonical.{decoded_of, bad_header}
 use Rattle.header_canonical.proofs.Canonical.{decoded_same}
 use Rattle.five_calls.specs.declared.Call.{Call}
@@ -24,8 +23,8 @@ byte_still c b h = go (decoded_of b.header).canonical refl h
     d = session_for (decoded_of b.header).machine b
 
     same : (decoded_of b.header).canonical ≡ true → (a : Answer) → (journal_call c d).answer ≡ a → (number_of a ≡ 0 → ⊥) → (answered_by (journal_call c d)).left ≡ b
-    same k Accepted e n = absurd (n refl)
-    same k (Refused why) e n =
+    same k (Ok u) e n = absurd (n refl)
+    same k (Err why) e n =
         ap session_bytes (still c d why e)
         ∙ ap (λ (x : List ℕ). buffers x b.area b.log b.standing b.total) (sym (decoded_same b.header k))
 

@@ -1,10 +1,10 @@
 -- A machine with its memory, and what a call gives that is refused.
 use Prim.Native.Nat.{ℕ}
 use mathlib.Core.List.{List}
+use Rattle.std.specs.Prelude.{Err}
 use Rattle.spectrum.specs.declared.Machine.{Machine}
 use Rattle.spectrum.specs.State.{State}
 use Rattle.numbers.specs.declared.Refusal.{Refusal}
-use Rattle.numbers.specs.declared.Answer.TheVariants.{Refused}
 use Rattle.session.specs.declared.Counts.{Counts}
 use Rattle.session.specs.declared.Done.{Done}
 
@@ -12,4 +12,4 @@ abbrev pub on : Machine → List ℕ → State
 on m l = record { machine = m; memory = l }
 
 abbrev pub refused_done : Refusal → Machine → Counts → Done
-refused_done why m n = record { answer = Refused why; machine = m; counts = n }
+refused_done why m n = record { answer = Err why; machine = m; counts = n }

@@ -1,9 +1,8 @@
 -- What a call of the correction log is lent and leaves: machine and memory, the log, and its two numbers.
-use Rattle.std.specs.Prelude.{ℕ, List}
+use Rattle.std.specs.Prelude.{ℕ, List, Ok, Err}
 use Rattle.spectrum.specs.declared.Machine.{Machine}
 use Rattle.numbers.specs.declared.Refusal.{Refusal}
-use Rattle.numbers.specs.declared.Answer.{Answer}
-use Rattle.numbers.specs.declared.Answer.TheVariants.{Accepted, Refused}
+use Rattle.numbers.specs.Numbers.{Answer, accepted}
 use Rattle.spectrum.specs.State.{State}
 use Rattle.session.specs.declared.Counts.{Counts}
 use Rattle.session.specs.declared.Done.{Done}
@@ -31,9 +30,9 @@ started start log = record { state = start; log = log; standing = 0; total = 0 }
 
 -- "The other calls change nothing when refused."
 abbrev pub unchanged : Session → Refusal → CallResult
-unchanged d why = record { answer = Refused why; session = d }
+unchanged d why = record { answer = Err why; session = d }
 
 -- what follows where the answer is accepted
 abbrev pub if_accepted : Answer → Session → CallResult → CallResult
-if_accepted Accepted d x = x
-if_accepted (Refused why) d x = unchanged d why
+if_accepted (Ok u) d x = x
+if_accepted (Err why) d x = unchanged d why

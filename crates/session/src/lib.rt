@@ -2,7 +2,7 @@
 #![tactic(auto)]
 
 ghost use Rattle.std.specs.Prelude.{◌+◌, ◌-◌, ◌<◌, ◌≡◌};
-ghost use Rattle.numbers.specs.declared.Answer.TheVariants.{Accepted, Refused};
+ghost use Rattle.numbers.specs.Numbers.{accepted};
 
 use numbers::{Answer, Refusal};
 use spectrum::Machine;
@@ -60,20 +60,20 @@ impl Counts {
 impl Done {
     // Refused: machine and numbers as they were.
     pub fn refused(why: Refusal, m: Machine, n: Counts) -> Done
-        ensures { result ≡ record { answer = Refused why; machine = m; counts = n } }
+        ensures { result ≡ record { answer = Err why; machine = m; counts = n } }
     {
         Done {
-            answer: Answer::Refused(why),
+            answer: Err(why),
             machine: m,
             counts: n,
         }
     }
 
     pub fn accepted(m: Machine, n: Counts) -> Done
-        ensures { result ≡ record { answer = Accepted; machine = m; counts = n } }
+        ensures { result ≡ record { answer = accepted; machine = m; counts = n } }
     {
         Done {
-            answer: Answer::Accepted,
+            answer: Ok(()),
             machine: m,
             counts: n,
         }

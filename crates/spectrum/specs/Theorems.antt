@@ -2,9 +2,7 @@
 use Rattle.std.specs.Prelude.{ℕ, ◌<◌, ◌≡◌, true}
 use Rattle.spectrum.specs.declared.Machine.{Machine}
 use Rattle.pages.specs.declared.Model.{Model}
-use Rattle.numbers.specs.declared.Answer.{Answer}
-use Rattle.numbers.specs.declared.Answer.TheVariants.{Accepted}
-use Rattle.numbers.specs.Numbers.{number_of}
+use Rattle.numbers.specs.Numbers.{Answer, accepted, number_of}
 use Rattle.clock.specs.Clock.{quarter, clock_end, position_of, low_of, high_of}
 use Rattle.spectrum.specs.Valid.{Typed, Valid, valid_of}
 
@@ -18,4 +16,4 @@ pub record Theorems : Type 0 where
       → (low_of model (position_of model low high) ≡ low) × (high_of model (position_of model low high) ≡ high)
   -- every number is a byte, and 0 is the number of no refusal
   pub number_small : (a : Answer) → number_of a < 256
-  pub number_0 : (a : Answer) → number_of a ≡ 0 → a ≡ Accepted
+  pub number_0 : (a : Answer) → number_of a ≡ 0 → a ≡ accepted

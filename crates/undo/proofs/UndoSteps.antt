@@ -6,7 +6,7 @@ use mathlib.Core.List.{List}
 use borrow.Author.Tests.{lt-ltb, le-ltb, eq-eqb, ne_eqb}
 use Rattle.spectrum.specs.declared.Machine.{Machine}
 use Rattle.numbers.specs.declared.Refusal.TheVariants.{NothingToMove, StepDamaged}
-use Rattle.numbers.specs.declared.Answer.TheVariants.{Accepted}
+use Rattle.numbers.specs.Numbers.{accepted}
 use Rattle.log_steps.specs.declared.Step.{Step}
 use Rattle.session.specs.declared.Counts.{Counts}
 use Rattle.session.specs.declared.Done.{Done}
@@ -22,11 +22,11 @@ total_kept n next k e = ap (λ (x : Counts). x.total) e
 -- a step taken back or made again
 module _ (m : Machine) (mem : List ℕ) (n : Counts) (s : Step) (was v : ℕ) (next : Counts) (et : next.total ≡ n.total) (i : Bool) (ei : i ≡ intact m.model s) where
   pub moves : (there : ℕ) (m' : Machine) (mem' : List ℕ) (r : Done) → i ≡ true → there ≡ present s (on m mem) → there ≡ was → on m' mem' ≡ placed s v (on m mem)
-      → r ≡ record { answer = Accepted; machine = m'; counts = next }
+      → r ≡ record { answer = accepted; machine = m'; counts = next }
       → (log : List ℕ) → result_of r mem' log ≡ moved (session_on m mem log n) s was v next.standing
   moves there m' mem' r y q w e er log =
       rw er (simp (sym ei ∙ y, eq-eqb (present s (on m mem)) was (sym q ∙ w))
-      (λ k. record { answer = Accepted; session = record { state = e k; log = log; standing = next.standing; total = et k } }))
+      (λ k. record { answer = accepted; session = record { state = e k; log = log; standing = next.standing; total = et k } }))
 
   pub stays_other : (there : ℕ) (r : Done) → i ≡ true → there ≡ present s (on m mem) → (there ≡ was → ⊥) → r ≡ refused_done StepDamaged m n
       → (log : List ℕ) → result_of r mem log ≡ moved (session_on m mem log n) s was v next.standing

@@ -2,7 +2,7 @@
 use Rattle.std.specs.Prelude.{ℕ, ◌+◌, ◌-◌, ltb, eqb}
 use Rattle.slices.specs.Choose.{choose, both}
 use Rattle.numbers.specs.declared.Refusal.TheVariants.{NothingToMove, StepDamaged}
-use Rattle.numbers.specs.declared.Answer.TheVariants.{Accepted}
+use Rattle.numbers.specs.Numbers.{accepted}
 use Rattle.log_steps.specs.declared.Step.{Step}
 use Rattle.log_steps.specs.Steps.{step_at}
 use Rattle.step_places.specs.Pointed.{present, placed, intact}
@@ -12,7 +12,7 @@ use Rattle.session.specs.Session.{Session, CallResult, unchanged}
 abbrev pub moved : Session → Step → ℕ → ℕ → ℕ → CallResult
 moved d s was v n =
     choose (both (intact d.state.machine.model s) (eqb (present s d.state) was))
-    (record { answer = Accepted; session = record { state = placed s v d.state; log = d.log; standing = n; total = d.total } })
+    (record { answer = accepted; session = record { state = placed s v d.state; log = d.log; standing = n; total = d.total } })
     (unchanged d StepDamaged)
 
 unfoldable pub undo_of : Session → CallResult

@@ -7,14 +7,14 @@ use mathlib.Core.List.{List}
 use lib.ListN.{length, take, drop}
 use lib.Dec.{ltb, eqb}
 use borrow.Author.Tests.{lt-ltb, le-ltb, ltb-true, ltb-false, eq-eqb, ne_eqb, eqb-true}
+use Rattle.std.specs.Prelude.{Ok, Err}
 use Rattle.slices.specs.Choose.{choose}
 use Rattle.spectrum.specs.declared.Machine.{Machine}
 use Rattle.pages.specs.declared.Model.{Model}
 use Rattle.pages.specs.declared.Model.TheVariants.{K48, K128}
 use Rattle.numbers.specs.declared.Refusal.{Refusal}
 use Rattle.numbers.specs.declared.Refusal.TheVariants.{InvalidMachine, MemoryLength, RomLength, PageNotOwned}
-use Rattle.numbers.specs.declared.Answer.{Answer}
-use Rattle.numbers.specs.declared.Answer.TheVariants.{Accepted, Refused}
+use Rattle.numbers.specs.Numbers.{Answer, accepted}
 use Rattle.pages.specs.Pages.{owned}
 use Rattle.spectrum.specs.Valid.{valid_of}
 use Rattle.slices.proofs.Chosen.{not_flip}
@@ -30,36 +30,36 @@ pub page_rom : (k : Model) (p n : ℕ) → 8 ≤ p → n ≡ rom_pages k → ltb
 page_rom k p n h e = rw (le-ltb p 8 h, e)
 
 module _ (m : Machine) (rom area page : ℕ) (t : Bool) (et : t ≡ valid_of m) where
-  pub view_20 : t ≡ false → Refused InvalidMachine ≡ view_answer m rom area page
+  pub view_20 : t ≡ false → Err InvalidMachine ≡ view_answer m rom area page
   unfolding view_answer
   view_20 h = rw (← et, h)
 
   module _ (h : t ≡ true) where
-    pub view_21 : (area ≡ 131072 → ⊥) → Refused MemoryLength ≡ view_answer m rom area page
+    pub view_21 : (area ≡ 131072 → ⊥) → Err MemoryLength ≡ view_answer m rom area page
     unfolding view_answer
     view_21 a = rw (← et, h, ne_eqb area 131072 a)
 
     module _ (a : area ≡ 131072) (n : ℕ) (en : n ≡ rom_length m.model) where
-      pub view_31 : (rom ≡ n → ⊥) → Refused RomLength ≡ view_answer m rom area page
+      pub view_31 : (rom ≡ n → ⊥) → Err RomLength ≡ view_answer m rom area page
       unfolding view_answer
       view_31 r = rw (← et, h, eq-eqb area 131072 a, ← en, ne_eqb rom n r)
 
-      pub view_30 : (u : Bool) → rom ≡ n → u ≡ has_page m.model page → u ≡ false → Refused PageNotOwned ≡ view_answer m rom area page
+      pub view_30 : (u : Bool) → rom ≡ n → u ≡ has_page m.model page → u ≡ false → Err PageNotOwned ≡ view_answer m rom area page
       unfolding view_answer
       view_30 u r eu q = rw (← et, h, eq-eqb area 131072 a, ← en, eq-eqb rom n r, ← eu, q)
 
-      pub view_0 : (u : Bool) → rom ≡ n → u ≡ has_page m.model page → u ≡ true → Accepted ≡ view_answer m rom area page
+      pub view_0 : (u : Bool) → rom ≡ n → u ≡ has_page m.model page → u ≡ true → accepted ≡ view_answer m rom area page
       unfolding view_answer
       view_0 u r eu q = rw (← et, h, eq-eqb area 131072 a, ← en, eq-eqb rom n r, ← eu, q)
 
 module _ (a x : Answer) (page : ℕ) (e : a ≡ x) where
-  pub part_none : (why : Refusal) → a ≡ Refused why → Nowhere ≡ part_for x page
+  pub part_none : (why : Refusal) → a ≡ Err why → Nowhere ≡ part_for x page
   part_none why h = sym (ap (λ (z : Answer). part_for z page) (sym e ∙ h))
 
-  pub part_area : a ≡ Accepted → page < 8 → InArea (page * 16384) ≡ part_for x page
+  pub part_area : a ≡ accepted → page < 8 → InArea (page * 16384) ≡ part_for x page
   part_area h l = rw (← e, h, lt-ltb page 8 l)
 
-  pub part_rom : a ≡ Accepted → 8 ≤ page → InRom ((page - 8) * 16384) ≡ part_for x page
+  pub part_rom : a ≡ accepted → 8 ≤ page → InRom ((page - 8) * 16384) ≡ part_for x page
   part_rom h l = rw (← e, h, le-ltb page 8 l)
 
 -- a part lies inside
@@ -73,8 +73,8 @@ module _ (m : Machine) (rom area page : ℕ) (p : Part) (e : p ≡ part_for (vie
   area_inside start q = go (view_answer m rom area page) refl (sym q ∙ e)
     where
       go : (a : Answer) → view_answer m rom area page ≡ a → InArea start ≡ part_for a page → start + 16384 ≤ area
-      go (Refused why) h r = let z : ◌≡◌ {A = ℕ} 0 1 = cc in absurd (omega arith)
-      go Accepted h r = pick (ltb page 8) refl r
+      go (Err why) h r = let z : ◌≡◌ {A = ℕ} 0 1 = cc in absurd (omega arith)
+      go (Ok u) h r = pick (ltb page 8) refl r
         where
           pick : (t : Bool) → ltb page 8 ≡ t → InArea start ≡ choose t (InArea (page * 16384)) (InRom ((page - 8) * 16384)) → start + 16384 ≤ area
           pick true t k =
@@ -89,8 +89,8 @@ module _ (m : Machine) (rom area page : ℕ) (p : Part) (e : p ≡ part_for (vie
   rom_fits start q = go (view_answer m rom area page) refl (sym q ∙ e)
     where
       go : (a : Answer) → view_answer m rom area page ≡ a → InRom start ≡ part_for a page → start + 16384 ≤ rom
-      go (Refused why) h r = let z : ◌≡◌ {A = ℕ} 0 1 = cc in absurd (omega arith)
-      go Accepted h r = pick (ltb page 8) refl r
+      go (Err why) h r = let z : ◌≡◌ {A = ℕ} 0 1 = cc in absurd (omega arith)
+      go (Ok u) h r = pick (ltb page 8) refl r
         where
           pick : (t : Bool) → ltb page 8 ≡ t → InRom start ≡ choose t (InArea (page * 16384)) (InRom ((page - 8) * 16384)) → start + 16384 ≤ rom
           pick true t k = let z : ◌≡◌ {A = ℕ} 0 1 = cc in absurd (omega arith)
@@ -98,7 +98,7 @@ module _ (m : Machine) (rom area page : ℕ) (p : Part) (e : p ≡ part_for (vie
               let b = refuse_not (not (valid_of m)) InvalidMachine _ h in
               let c = refuse_not (not (eqb area 131072)) MemoryLength _ b.1 in
               let d = refuse_not (not (eqb rom (rom_length m.model))) RomLength _ c.1 in
-              let f = refuse_not (not (has_page m.model page)) PageNotOwned Accepted d.1 in
+              let f = refuse_not (not (has_page m.model page)) PageNotOwned accepted d.1 in
               let g : ltb page (rom_pages m.model) ≡ true = rw t at (not_flip (has_page m.model page) f.0) in
               let w : start ≡ (page - 8) * 16384 = cc in
               let i = rom_inside m.model page (ltb-false page 8 t) g in

@@ -1,16 +1,14 @@
 -- "A view gives the caller a page as a part of the ROM or of the area: 0-7 RAM, 8 the first 16K of ROM, 9 the second (128K only). Refused, it
 -- gives an empty part, and a second call gives the number."
-use Rattle.std.specs.Prelude.{ℕ, ◌-◌, ◌*◌, Bool, not, List, [], length, take, drop, ltb, eqb}
+use Rattle.std.specs.Prelude.{ℕ, ◌-◌, ◌*◌, Bool, not, List, [], length, take, drop, ltb, eqb, Ok, Err}
 use Rattle.slices.specs.Choose.{choose}
 use Rattle.spectrum.specs.declared.Machine.{Machine}
 use Rattle.pages.specs.declared.Model.{Model}
 use Rattle.pages.specs.declared.Model.TheVariants.{K48, K128}
 use Rattle.numbers.specs.declared.Refusal.TheVariants.{InvalidMachine, MemoryLength, RomLength, PageNotOwned}
-use Rattle.numbers.specs.declared.Answer.{Answer}
-use Rattle.numbers.specs.declared.Answer.TheVariants.{Accepted, Refused}
+use Rattle.numbers.specs.Numbers.{Answer, accepted, refuse}
 use Rattle.pages.specs.Pages.{owned}
 use Rattle.spectrum.specs.Valid.{valid_of}
-use Rattle.numbers.specs.Numbers.{refuse}
 use Rattle.view.specs.declared.Part.{Part}
 use Rattle.view.specs.declared.Part.TheVariants.{Nowhere, InArea, InRom}
 
@@ -33,12 +31,12 @@ view_answer m rom area page =
     refuse (not (valid_of m)) InvalidMachine
     (refuse (not (eqb area 131072)) MemoryLength
     (refuse (not (eqb rom (rom_length m.model))) RomLength
-    (refuse (not (has_page m.model page)) PageNotOwned Accepted)))
+    (refuse (not (has_page m.model page)) PageNotOwned accepted)))
 
 -- where a page lies, and at which byte it starts
 abbrev pub part_for : Answer → ℕ → Part
-part_for (Refused why) page = Nowhere
-part_for Accepted page = choose (ltb page 8) (InArea (page * 16384)) (InRom ((page - 8) * 16384))
+part_for (Err why) page = Nowhere
+part_for (Ok u) page = choose (ltb page 8) (InArea (page * 16384)) (InRom ((page - 8) * 16384))
 
 -- the 16,384 bytes of a part
 abbrev pub part_bytes : Part → List ℕ → List ℕ → List ℕ

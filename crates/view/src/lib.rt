@@ -41,17 +41,17 @@ pub fn answer(m: Machine, rom: usize, area: usize, page: u8) -> Answer
     let model = m.model;
     if m.valid() {
         if area != 131072 {
-            return Answer::Refused(Refusal::MemoryLength);
+            return Err(Refusal::MemoryLength);
         }
         if rom != rom_length(model) {
-            return Answer::Refused(Refusal::RomLength);
+            return Err(Refusal::RomLength);
         }
         if has_page(model, page) {
-            return Answer::Accepted;
+            return Ok(());
         }
-        return Answer::Refused(Refusal::PageNotOwned);
+        return Err(Refusal::PageNotOwned);
     }
-    Answer::Refused(Refusal::InvalidMachine)
+    Err(Refusal::InvalidMachine)
 }
 
 // Where a page lies in a ROM and an area of these lengths.
@@ -60,8 +60,8 @@ pub fn locate(m: Machine, rom: usize, area: usize, page: u8) -> Part
 {
     let said = answer(m, rom, area, page);
     match said {
-        Answer::Refused(_) => return Part::Nowhere,
-        Answer::Accepted => {
+        Err(_) => return Part::Nowhere,
+        Ok(()) => {
             let p = page as usize;
             if p < 8 {
                 return Part::InArea(p * 16384);

@@ -3,10 +3,9 @@ use Prim.Native.Nat.{ℕ}
 use mathlib.Core.Path.{◌≡◌, refl, ap, ◌∙◌}
 use mathlib.Core.Bool.{true, false}
 use mathlib.Core.List.{List}
-use Rattle.numbers.specs.declared.Answer.{Answer}
-use Rattle.numbers.specs.declared.Answer.TheVariants.{Refused}
+use Rattle.std.specs.Prelude.{Err}
+use Rattle.numbers.specs.Numbers.{Answer, number_of}
 use Rattle.numbers.specs.declared.Refusal.TheVariants.{InvalidMachine}
-use Rattle.numbers.specs.Numbers.{number_of}
 use Rattle.header_canonical.specs.declared.DecodedHeader.{DecodedHeader}
 use Rattle.header_canonical.specs.Canonical.{decoded_of}
 use Rattle.view.specs.declared.Part.{Part}
@@ -15,7 +14,7 @@ use Rattle.view.specs.View.{view_answer, part_for}
 use Rattle.view_bytes.specs.Views.{show_of, Shows}
 
 module _ (head : List ℕ) (rom area page : ℕ) (k : DecodedHeader) (e : k ≡ decoded_of head) where
-  pub show_refused : (r : ℕ) → k.canonical ≡ false → r ≡ number_of (Refused InvalidMachine) → Shows (show_of head rom area page) r 0 0 0
+  pub show_refused : (r : ℕ) → k.canonical ≡ false → r ≡ number_of (Err InvalidMachine) → Shows (show_of head rom area page) r 0 0 0
   unfolding show_of
   show_refused r h q = rw (← e, h) (record { answer = q; rom = refl; start = refl; size = refl })
 

@@ -4,7 +4,7 @@
 ghost use Rattle.std.specs.Prelude.{length};
 ghost use Rattle.view_bytes.specs.Views.{Shows, show_of};
 
-use numbers::{Answer, Refusal};
+use numbers::Refusal;
 use view::Part;
 
 // Where a page lies: in the ROM or in the area, from which byte on, and how long.
@@ -42,5 +42,5 @@ pub fn view(
             }
         }
     }
-    numbers::number(Answer::Refused(Refusal::InvalidMachine))
+    numbers::number(Err(Refusal::InvalidMachine))
 }

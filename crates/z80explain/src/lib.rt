@@ -53,7 +53,7 @@ fn all_good() -> Explained
     ensures { result ≡ nothing_wrong }
 {
     Explained {
-        answer: Answer::Accepted,
+        answer: Ok(()),
         place: 0,
         block: 0,
         found: 0,
@@ -66,7 +66,7 @@ fn refused_for(fault: FileFault) -> Explained
 {
     let why = fault.why;
     Explained {
-        answer: Answer::Refused(why),
+        answer: Err(why),
         place: fault.place,
         block: fault.block,
         found: fault.found,

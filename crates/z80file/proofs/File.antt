@@ -15,7 +15,7 @@ use Rattle.pages.specs.declared.Model.{Model}
 use Rattle.pages.specs.declared.Model.TheVariants.{K48}
 use Rattle.spectrum.specs.declared.Attachment.{Attachment}
 use Rattle.numbers.specs.declared.Refusal.TheVariants.{AreaLength, InvalidMachine, MemoryLength, OutputShort}
-use Rattle.numbers.specs.declared.Answer.TheVariants.{Accepted}
+use Rattle.numbers.specs.Numbers.{accepted}
 use Rattle.spectrum.specs.Valid.{Typed, valid_of}
 use Rattle.spectrum.proofs.Validity.{valid_says}
 use Rattle.numbers.proofs.Numbers.{refused_not}
@@ -57,7 +57,7 @@ file_back m area t h c =
     ∙ ap (λ (x : Machine). accepted_read x area) (machine_back m rest t v)
 
 -- what an accepted write left begins with the file
-pub out_is_file : (m : Machine) (area : List ℕ) (n : ℕ) → (written_of m area n).answer ≡ Accepted → take (written_of m area n).size (written_of m area n).out ≡ file_of m area
+pub out_is_file : (m : Machine) (area : List ℕ) (n : ℕ) → (written_of m area n).answer ≡ accepted → take (written_of m area n).size (written_of m area n).out ≡ file_of m area
 unfolding written_of
 out_is_file m area n = go (valid_of m) (eqb (length area) 131072) (leb (length (file_of m area)) n)
   where
@@ -67,7 +67,7 @@ out_is_file m area n = go (valid_of m) (eqb (length area) 131072) (leb (length (
     o : Bool → Bool → Bool → WriteResult
     o t u v = choose t (choose u (choose v (accepted_write f n) (refused_write OutputShort n)) (refused_write MemoryLength n)) (refused_write InvalidMachine n)
 
-    go : (t u v : Bool) → (o t u v).answer ≡ Accepted → take (o t u v).size (o t u v).out ≡ f
+    go : (t u v : Bool) → (o t u v).answer ≡ accepted → take (o t u v).size (o t u v).out ≡ f
     go true true true h = take_at f (replicate (n - length f) 0) (length f) refl
     go true true false h = absurd (refused_not OutputShort h)
     go true false v h = absurd (refused_not MemoryLength h)
@@ -100,7 +100,7 @@ unfolding machine_of
 model_is v model a s = refl
 
 accepted_start : (s : List ℕ) (n : ℕ) (v : Version) (model : Model) (a : Attachment) (x : BodyResult) → n ≡ 131072 → head_of s ≡ Header v model a → CleanBody model x
-    → (after_body x (machine_of v model a s) n).answer ≡ Accepted
+    → (after_body x (machine_of v model a s) n).answer ≡ accepted
     → ReadGives (after_body x (machine_of v model a s) n).machine (after_body x (machine_of v model a s) n).memory n
 accepted_start s n v model a (body_refused w) l e g h = absurd (refused_not w.why h)
 accepted_start s n v model a (body_read area) l e g h =
@@ -110,14 +110,14 @@ accepted_start s n v model a (body_read area) l e g h =
       clean = subst (λ (k : Model). Clean k area) (sym (model_is v model a s)) g;
     }
 
-pub read_start : (s : List ℕ) (n : ℕ) → (read_of s n).answer ≡ Accepted → ReadGives (read_of s n).machine (read_of s n).memory n
+pub read_start : (s : List ℕ) (n : ℕ) → (read_of s n).answer ≡ accepted → ReadGives (read_of s n).machine (read_of s n).memory n
 unfolding read_of
 read_start s n = go (eqb n 131072) refl (head_of s) refl
   where
     o : Bool → Head → ReadResult
     o t x = choose t (after_head x s n) (refused_read (unplaced AreaLength) n)
 
-    go : (t : Bool) → eqb n 131072 ≡ t → (x : Head) → head_of s ≡ x → (o t x).answer ≡ Accepted → ReadGives (o t x).machine (o t x).memory n
+    go : (t : Bool) → eqb n 131072 ≡ t → (x : Head) → head_of s ≡ x → (o t x).answer ≡ accepted → ReadGives (o t x).machine (o t x).memory n
     go true e (Head.Refused w) q h = absurd (refused_not w.why h)
     go true e (Header v model a) q h =
         accepted_start s n v model a (memory_into v model (blank 131072) s) (eqb-true _ _ e) q (clean_memory v model s (opens s (head_of s) v model a refl q).first) h

@@ -6,10 +6,10 @@ use mathlib.Core.List.{List, [], ◌++◌, append_assoc, append-nil}
 use native.Mathlib.Omega.{arith}
 use lib.ListN.{length, take, replicate}
 use lib.Seq.{take_at, drop_at}
+use Rattle.std.specs.Prelude.{Err}
 use Rattle.slices.specs.Blank.{blank}
 use Rattle.spectrum.specs.declared.Machine.{Machine}
 use Rattle.numbers.specs.declared.Refusal.TheVariants.{FileShort, BlockMissing}
-use Rattle.numbers.specs.declared.Answer.TheVariants.{Refused}
 use Rattle.spectrum.specs.Machine.{with_out}
 use Rattle.pages.specs.Pages.{slots}
 use Rattle.spectrum.specs.Valid.{Typed, valid_of}
@@ -73,7 +73,7 @@ unfolding sample blocks_into blocks all_there
 no_blocks = refl
 
 -- a header alone is refused
-header_alone : (read_of (header_of sample ++ []) 131072).answer ≡ Refused BlockMissing
+header_alone : (read_of (header_of sample ++ []) 131072).answer ≡ Err BlockMissing
 unfolding read_of
 header_alone =
     ap (λ (x : Head). (after_head x (header_of sample ++ []) 131072).answer) (head_back sample [] sample_typed (valid_says sample sample_typed.sound sample_valid))

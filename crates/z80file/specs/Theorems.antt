@@ -2,7 +2,7 @@
 use Rattle.std.specs.Prelude.{ℕ, ◌<◌, ◌≡◌, true, List, map}
 use Rattle.spectrum.specs.declared.Machine.{Machine}
 use Rattle.pages.specs.declared.Model.{Model}
-use Rattle.numbers.specs.declared.Answer.TheVariants.{Accepted}
+use Rattle.numbers.specs.Numbers.{accepted}
 use Rattle.pages.specs.Pages.{owned}
 use Rattle.spectrum.specs.Valid.{Typed, valid_of}
 use Rattle.block_pages.specs.declared.Page.TheVariants.{At}
@@ -21,7 +21,7 @@ pub record Theorems : Type 0 where
   pub file_back : (m : Machine) (area : List ℕ) → Typed m → valid_of m ≡ true → Clean m.model area
       → read_of (file_of m area) 131072 ≡ accepted_read m area
   -- "An accepted read gives a valid machine", and "sets pages that the machine does not own to zero": with `read_typed`, a start
-  pub read_start : (s : List ℕ) (n : ℕ) → (read_of s n).answer ≡ Accepted → ReadGives (read_of s n).machine (read_of s n).memory n
+  pub read_start : (s : List ℕ) (n : ℕ) → (read_of s n).answer ≡ accepted → ReadGives (read_of s n).machine (read_of s n).memory n
   -- the page of a block number is one that the machine owns
   pub owned_page : (model : Model) (n p : ℕ) → page_of model n ≡ At p → (owned model p ≡ true) × (p < 8)
   -- P1 to P12, "proved together as a single table under a single statement"

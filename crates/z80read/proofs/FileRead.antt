@@ -7,6 +7,7 @@ use mathlib.Core.List.{List, ◌++◌}
 use lib.ListN.{length, take, drop, replicate, length-replicate}
 use lib.Dec.{eqb}
 use borrow.Author.Tests.{eq-eqb, ne_eqb}
+use Rattle.std.specs.Prelude.{Err}
 use Rattle.slices.specs.Blank.{blank}
 use Rattle.slices.proofs.Fills.{cleared_whole}
 use Rattle.spectrum.specs.declared.Machine.{Machine}
@@ -16,7 +17,7 @@ use Rattle.numbers.specs.declared.Refusal.{Refusal}
 use Rattle.numbers.specs.declared.FileFault.{FileFault}
 use Rattle.numbers.specs.Faults.{unplaced}
 use Rattle.numbers.specs.declared.Refusal.TheVariants.{AreaLength}
-use Rattle.numbers.specs.declared.Answer.TheVariants.{Accepted, Refused}
+use Rattle.numbers.specs.Numbers.{accepted}
 use Rattle.numbers.proofs.Numbers.{refused_not}
 use Rattle.spectrum.specs.Machine.{blank_machine}
 use Rattle.spectrum.specs.Valid.{valid_of}
@@ -39,7 +40,7 @@ use Rattle.z80read.specs.Read.{memory_into, ReadResult, refused_read, after_body
 
 -- what a refused read gives beside the area
 abbrev refused_opened : FileFault → Opened
-refused_opened fault = record { answer = Refused fault.why; place = fault.place; machine = blank_machine }
+refused_opened fault = record { answer = Err fault.why; place = fault.place; machine = blank_machine }
 
 -- what follows the header, by version
 module _ (v : Version) (model : Model) (area s : List ℕ) (n : ℕ) (r : BodyAnswer) (after : List ℕ) where
@@ -66,14 +67,14 @@ module _ (x : BodyResult) (m : Machine) (n : ℕ) (answer : BodyAnswer) (after :
           let z : Faulty w ≡ Faulty fault = sym t.0 ∙ e in
           let f : w ≡ fault = cc in
           record {
-            answer = ap (λ (o : Opened). o.answer) q ∙ sym (ap (λ (x : FileFault). Refused x.why) f);
+            answer = ap (λ (o : Opened). o.answer) q ∙ sym (ap (λ (x : FileFault). Err x.why) f);
             place = ap (λ (o : Opened). o.place) q ∙ sym (ap (λ (x : FileFault). x.place) f);
             machine = ap (λ (o : Opened). o.machine) q;
             memory = t.1 l ∙ sym (ap (λ (k : ℕ). replicate k 0) l);
           }
       go (body_read a) t = let z : ◌≡◌ {A = ℕ} 0 1 = cc in absurd (omega arith)
 
-  pub on_accepted : (machine : Machine) (r : Opened) → answer ≡ Whole → machine ≡ m → r.answer ≡ Accepted → r.place ≡ 0 → r.machine ≡ machine → ReadLeaves (after_body x m n) r after
+  pub on_accepted : (machine : Machine) (r : Opened) → answer ≡ Whole → machine ≡ m → r.answer ≡ accepted → r.place ≡ 0 → r.machine ≡ machine → ReadLeaves (after_body x m n) r after
   on_accepted machine r e q a p b = go x t
     where
       go : (x : BodyResult) → ReadsBody x n answer after → ReadLeaves (after_body x m n) r after
@@ -81,7 +82,7 @@ module _ (x : BodyResult) (m : Machine) (n : ℕ) (answer : BodyAnswer) (after :
       go (body_read area) t = record { answer = a; place = p; machine = b ∙ q; memory = t.1 l }
 
 -- a refusal is not accepted, so nothing is said of its machine
-no_machine : (o : ReadResult) (why : Refusal) (r : Opened) (area : List ℕ) → ReadLeaves o r area → r.answer ≡ Refused why → Reads o r area
+no_machine : (o : ReadResult) (why : Refusal) (r : Opened) (area : List ℕ) → ReadLeaves o r area → r.answer ≡ Err why → Reads o r area
 no_machine o why r area l e = record { leaves = l; valid = λ a. absurd (refused_not why (sym e ∙ a)) }
 
 module _ (s before clear : List ℕ) (c₀ : clear ≡ take 0 before ++ replicate (length before - 0) 0) where
@@ -136,6 +137,6 @@ module _ (s before clear : List ℕ) (c₀ : clear ≡ take 0 before ++ replicat
             valid = λ g. valid x (subst (λ (o : ReadResult). ReadLeaves o r area) p l) g;
           }
         where
-          valid : (x : BodyResult) → ReadLeaves (after_body x (machine_of v model a s) (length before)) r area → r.answer ≡ Accepted → valid_of r.machine ≡ true
+          valid : (x : BodyResult) → ReadLeaves (after_body x (machine_of v model a s) (length before)) r area → r.answer ≡ accepted → valid_of r.machine ≡ true
           valid (body_refused w) l g = absurd (refused_not w.why (sym l.answer ∙ g))
           valid (body_read m) l g = ap valid_of l.machine ∙ machine_valid s v model a (sym eh ∙ e)

@@ -10,7 +10,7 @@ use Rattle.slices.specs.Blank.{blank}
 use Rattle.slices.proofs.Chosen.{either}
 use Rattle.spectrum.specs.declared.Machine.{Machine}
 use Rattle.pages.specs.declared.Model.{Model}
-use Rattle.numbers.specs.declared.Answer.TheVariants.{Accepted}
+use Rattle.numbers.specs.Numbers.{accepted}
 use Rattle.header.specs.declared.Version.{Version}
 use Rattle.header.specs.declared.Version.TheVariants.{V1, V2, V3}
 use Rattle.header.specs.declared.Head.{Head}
@@ -32,17 +32,17 @@ module _ (s : List ℕ) (n : ℕ) (w : (i : ℕ) → get_or s i 0 < 256) where
   memory_most V2 model area a e = blocks_after 55 model area a (omega arith) e
   memory_most V3 model area a e = blocks_after 86 model area a (omega arith) e
 
-  result_most : (x : BodyResult) (m : Machine) → ((a : List ℕ) → x ≡ body_read a → length s ≤ 524382) → (after_body x m n).answer ≡ Accepted → length s ≤ 524382
+  result_most : (x : BodyResult) (m : Machine) → ((a : List ℕ) → x ≡ body_read a → length s ≤ 524382) → (after_body x m n).answer ≡ accepted → length s ≤ 524382
   result_most (body_refused fault) m f e = let z : ◌≡◌ {A = ℕ} 0 1 = cc in absurd (omega arith)
   result_most (body_read a) m f e = f a refl
 
-  head_most : (h : Head) → (after_head h s n).answer ≡ Accepted → length s ≤ 524382
+  head_most : (h : Head) → (after_head h s n).answer ≡ accepted → length s ≤ 524382
   head_most (Head.Refused why) e = let z : ◌≡◌ {A = ℕ} 0 1 = cc in absurd (omega arith)
   head_most (Header v model a) e = result_most (memory_into v model (blank 131072) s) (machine_of v model a s) (memory_most v model (blank 131072)) e
 
 -- the header of v3 and the blocks; v2 and v1 are shorter
-pub read_most : (s : List ℕ) (n : ℕ) → ((i : ℕ) → get_or s i 0 < 256) → (read_of s n).answer ≡ Accepted → length s ≤ 524382
+pub read_most : (s : List ℕ) (n : ℕ) → ((i : ℕ) → get_or s i 0 < 256) → (read_of s n).answer ≡ accepted → length s ≤ 524382
 unfolding read_of
 read_most s n w e =
-    either (λ (o : ReadResult). o.answer ≡ Accepted → length s ≤ 524382) (eqb n 131072) _ _ (λ t. head_most s n w (head_of s))
+    either (λ (o : ReadResult). o.answer ≡ accepted → length s ≤ 524382) (eqb n 131072) _ _ (λ t. head_most s n w (head_of s))
     (λ t q. let z : ◌≡◌ {A = ℕ} 0 1 = cc in absurd (omega arith)) e

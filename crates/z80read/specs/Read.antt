@@ -1,14 +1,13 @@
 -- Reading a .Z80 file: "1, 2 (30 bytes), the version, 2 (32 bytes), 3, 2 (whole header), 4, 5, 6, 7; then block by block 8, 9, 10, 11,
 -- 12; last 13. v1 goes 4, 5, then 14, 11, 12."
-use Rattle.std.specs.Prelude.{ℕ, ◌≡◌, true, List, drop, replicate, eqb}
+use Rattle.std.specs.Prelude.{ℕ, ◌≡◌, true, List, drop, replicate, eqb, Err}
 use Rattle.slices.specs.Choose.{choose}
 use Rattle.slices.specs.Blank.{blank}
 use Rattle.spectrum.specs.declared.Machine.{Machine}
 use Rattle.pages.specs.declared.Model.{Model}
 use Rattle.numbers.specs.declared.FileFault.{FileFault}
 use Rattle.numbers.specs.declared.Refusal.TheVariants.{AreaLength}
-use Rattle.numbers.specs.declared.Answer.{Answer}
-use Rattle.numbers.specs.declared.Answer.TheVariants.{Accepted, Refused}
+use Rattle.numbers.specs.Numbers.{Answer, accepted}
 use Rattle.numbers.specs.Faults.{unplaced}
 use Rattle.spectrum.specs.Machine.{blank_machine}
 use Rattle.spectrum.specs.Valid.{valid_of}
@@ -38,11 +37,11 @@ pub record ReadResult : Type 0 where
 
 -- "A refused read gives the blank machine and an area all zero", of n bytes
 abbrev pub refused_read : FileFault → ℕ → ReadResult
-refused_read fault n = record { answer = Refused fault.why; place = fault.place; machine = blank_machine; memory = replicate n 0 }
+refused_read fault n = record { answer = Err fault.why; place = fault.place; machine = blank_machine; memory = replicate n 0 }
 
 -- an accepted file has no place to name: "0 elsewhere"
 abbrev pub accepted_read : Machine → List ℕ → ReadResult
-accepted_read m area = record { answer = Accepted; place = 0; machine = m; memory = area }
+accepted_read m area = record { answer = accepted; place = 0; machine = m; memory = area }
 
 abbrev pub after_body : BodyResult → Machine → ℕ → ReadResult
 after_body (body_refused fault) m n = refused_read fault n
@@ -67,4 +66,4 @@ pub record ReadLeaves (o : ReadResult) (r : Opened) (area : List ℕ) : Type 0 w
 -- the promise of `read`: these, and an accepted machine is valid
 pub record Reads (o : ReadResult) (r : Opened) (area : List ℕ) : Type 0 where
   pub leaves : ReadLeaves o r area
-  pub valid : r.answer ≡ Accepted → valid_of r.machine ≡ true
+  pub valid : r.answer ≡ accepted → valid_of r.machine ≡ true

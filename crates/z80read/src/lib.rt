@@ -3,7 +3,7 @@
 
 ghost use Rattle.std.specs.Prelude.{◌≤◌, ◌≡◌, length};
 ghost use Rattle.slices.specs.Blank.{blank};
-ghost use Rattle.numbers.specs.declared.Answer.TheVariants.{Accepted, Refused};
+ghost use Rattle.numbers.specs.Numbers.{accepted};
 ghost use Rattle.spectrum.specs.Machine.{blank_machine};
 ghost use Rattle.header.specs.Heads.{header_length};
 ghost use Rattle.header_read.specs.Reading.{machine_of};
@@ -81,21 +81,21 @@ pub fn read_memory(file: &[u8], version: Version, model: Model, area: &mut [u8])
 }
 
 fn accepted_file(machine: Machine) -> Opened
-    ensures { (result.answer ≡ Accepted) × ((result.place ≡ 0) × (result.machine ≡ machine)) }
+    ensures { (result.answer ≡ accepted) × ((result.place ≡ 0) × (result.machine ≡ machine)) }
 {
     Opened {
-        answer: Answer::Accepted,
+        answer: Ok(()),
         place: 0,
         machine: machine,
     }
 }
 
 fn refused_file(fault: FileFault) -> Opened
-    ensures { result ≡ record { answer = Refused fault.why; place = fault.place; machine = blank_machine } }
+    ensures { result ≡ record { answer = Err fault.why; place = fault.place; machine = blank_machine } }
 {
     let why = fault.why;
     Opened {
-        answer: Answer::Refused(why),
+        answer: Err(why),
         place: fault.place,
         machine: Machine::blank(),
     }

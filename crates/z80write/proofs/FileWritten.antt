@@ -13,7 +13,7 @@ use Rattle.packed.specs.declared.Fit.{Fit}
 use Rattle.packed.specs.declared.Fit.TheVariants.{Length, TooShort}
 use Rattle.spectrum.specs.declared.Machine.{Machine}
 use Rattle.numbers.specs.declared.Refusal.TheVariants.{InvalidMachine, MemoryLength, OutputShort}
-use Rattle.numbers.specs.declared.Answer.TheVariants.{Accepted}
+use Rattle.numbers.specs.Numbers.{accepted}
 use Rattle.pages.specs.Pages.{slots}
 use Rattle.spectrum.specs.Valid.{valid_of, Typed}
 use Rattle.header_write.specs.Writing.{header_of}
@@ -79,7 +79,7 @@ module _ (m : Machine) (area d₀ : List ℕ) (v : Bool) (u : v ≡ valid_of m) 
           equally (no_room m area (length d₀) (sym u ∙ k) h (omega (arith, o.over, file_long m area t))) (subst (λ (n : ℕ). Writes (refused_write OutputShort n) r d) same w)
 
       pub writes_file : (n : ℕ) (d : List ℕ) → f ≡ Length n → d ≡ header_of m ++ drop 86 (put_mid 86 (length d₀ - 86) d₀ l)
-          → Writes (written_of m area (length d₀)) (record { answer = Accepted; length = 86 + n }) d
+          → Writes (written_of m area (length d₀)) (record { answer = accepted; length = 86 + n }) d
       writes_file n d q x =
           let w : InRoom (blocks_of m area) (length d₀ - 86) n l = subst (λ (z : Fit). FitSays (blocks_of m area) (length d₀ - 86) z l) q blocks_say in
           let fl = file_long m area t in

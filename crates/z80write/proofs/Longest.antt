@@ -11,7 +11,7 @@ use Rattle.packed.specs.Packed.Examples.{mixed, mixed_packed}
 use Rattle.spectrum.specs.declared.Machine.{Machine}
 use Rattle.pages.specs.declared.Model.{Model}
 use Rattle.pages.specs.declared.Model.TheVariants.{K48, K128}
-use Rattle.numbers.specs.declared.Answer.TheVariants.{Accepted}
+use Rattle.numbers.specs.Numbers.{accepted}
 use Rattle.pages.specs.declared.Slot.{Slot}
 use Rattle.pages.specs.Pages.{slots, page_in}
 use Rattle.spectrum.specs.Valid.{valid_of, Typed}
@@ -38,7 +38,7 @@ pub file_most : (m : Machine) (area : List ℕ) → Typed m → length (file_of 
 file_most m area t = omega (arith, file_long m area t, laid_most (slots m.model) area, slots_few m.model)
 
 -- an output of that length is never too short
-pub never_short : (m : Machine) (area : List ℕ) (n : ℕ) → Typed m → valid_of m ≡ true → length area ≡ 131072 → 131182 ≤ n → (written_of m area n).answer ≡ Accepted
+pub never_short : (m : Machine) (area : List ℕ) (n : ℕ) → Typed m → valid_of m ≡ true → length area ≡ 131072 → 131182 ≤ n → (written_of m area n).answer ≡ accepted
 never_short m area n t v h k = ap (λ (o : WriteResult). o.answer) (written_fits m area n v h (omega (arith, file_most m area t)))
 
 mixed_long : (k : ℕ) → length (mixed k) ≡ 2 * k

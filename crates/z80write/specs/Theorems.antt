@@ -4,7 +4,7 @@ use Rattle.packed.specs.Packed.{packed}
 use Rattle.packed.specs.Packed.Examples.{mixed}
 use Rattle.spectrum.specs.declared.Machine.{Machine}
 use Rattle.pages.specs.declared.Model.TheVariants.{K128}
-use Rattle.numbers.specs.declared.Answer.TheVariants.{Accepted}
+use Rattle.numbers.specs.Numbers.{accepted}
 use Rattle.spectrum.specs.Valid.{Typed, valid_of}
 use Rattle.block_write.specs.BlockFor.{block_for}
 use Rattle.z80write.specs.Written.{file_of, accepted_write, written_of}
@@ -17,6 +17,6 @@ pub record Theorems : Type 0 where
   pub longest_file : (m : Machine) → Typed m → m.model ≡ K128 → length (mixed 65536) ≡ 131072 × length (file_of m (mixed 65536)) ≡ 131182
   -- so an output of that length is never too short; and an exact fit is taken
   pub never_short : (m : Machine) (area : List ℕ) (n : ℕ) → Typed m → valid_of m ≡ true → length area ≡ 131072 → 131182 ≤ n
-      → (written_of m area n).answer ≡ Accepted
+      → (written_of m area n).answer ≡ accepted
   pub exact_fit : (m : Machine) (area : List ℕ) → valid_of m ≡ true → length area ≡ 131072
       → written_of m area (length (file_of m area)) ≡ accepted_write (file_of m area) (length (file_of m area))

@@ -1,12 +1,11 @@
 -- "Writing: the v3 header, then blocks by ascending block number, each packed if that is shorter than 16,384 bytes, else FFFF.
 -- The answer gives the file's length; output past it is set to zero."
-use Rattle.std.specs.Prelude.{ℕ, ◌-◌, ◌≡◌, List, ◌++◌, length, replicate, eqb, leb}
+use Rattle.std.specs.Prelude.{ℕ, ◌-◌, ◌≡◌, List, ◌++◌, length, replicate, eqb, leb, Err}
 use Rattle.slices.specs.Choose.{choose}
 use Rattle.spectrum.specs.declared.Machine.{Machine}
 use Rattle.numbers.specs.declared.Refusal.{Refusal}
 use Rattle.numbers.specs.declared.Refusal.TheVariants.{InvalidMachine, MemoryLength, OutputShort}
-use Rattle.numbers.specs.declared.Answer.{Answer}
-use Rattle.numbers.specs.declared.Answer.TheVariants.{Accepted, Refused}
+use Rattle.numbers.specs.Numbers.{Answer, accepted}
 use Rattle.pages.specs.Pages.{slots}
 use Rattle.spectrum.specs.Valid.{valid_of}
 use Rattle.header_write.specs.Writing.{header_of}
@@ -25,10 +24,10 @@ pub record WriteResult : Type 0 where
 
 -- "a refused write gives length 0 and an output all zero"
 abbrev pub refused_write : Refusal → ℕ → WriteResult
-refused_write why n = record { answer = Refused why; size = 0; out = replicate n 0 }
+refused_write why n = record { answer = Err why; size = 0; out = replicate n 0 }
 
 abbrev pub accepted_write : List ℕ → ℕ → WriteResult
-accepted_write file n = record { answer = Accepted; size = length file; out = file ++ replicate (n - length file) 0 }
+accepted_write file n = record { answer = accepted; size = length file; out = file ++ replicate (n - length file) 0 }
 
 -- "Write: 20, 21, 22", into an output of n bytes
 unfoldable pub written_of : Machine → List ℕ → ℕ → WriteResult

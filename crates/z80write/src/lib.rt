@@ -34,7 +34,7 @@ pub fn write(m: Machine, area: &[u8], out: &mut [u8]) -> Written
             Fit::Length(n) => {
                 header_write::write_header(m, out);
                 return Written {
-                    answer: Answer::Accepted,
+                    answer: Ok(()),
                     length: 86 + n,
                 };
             }
@@ -49,7 +49,7 @@ fn refuse_write(out: &mut [u8], why: Refusal) -> Written
 {
     slices::fill(out, 0);
     Written {
-        answer: Answer::Refused(why),
+        answer: Err(why),
         length: 0,
     }
 }
