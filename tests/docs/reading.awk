@@ -1,4 +1,4 @@
-# docs/READING.md, after the lengths of all files and the text of the files of specs/: its numbers of lines, its quotations, its chapters.
+# docs/READING.md, after the lengths of all files and the text of the files of specs/: its numbers of lines and their sums, its quotations, its chapters.
 function must(ok, what) { n++; if (!ok) print "docs: docs/READING.md:" place ": " what }
 FNR == NR { lines[$2] = $1; next }
 FILENAME != "docs/READING.md" { text[FILENAME] = (FNR == 1 ? "\n" : text[FILENAME]) $0 "\n"; next }
@@ -19,7 +19,16 @@ open { block = block $0 "\n"; next }
     path = cell[1]
     gsub(/^ *`|` *$/, "", path)
     gsub(/[ ,]/, "", cell[2])
-    if (cell[1] ~ /^ *`[^`]+\.(antt|h|rt|md)` *$/ && cell[2] ~ /^[0-9]+$/) must(path in lines && lines[path] == cell[2], "`" path "` has " (path in lines ? lines[path] : "no") " lines, not " cell[2])
+    if (cell[1] ~ /^ *`[^`]+\.(antt|h|rt|md)` *$/ && cell[2] ~ /^[0-9]+$/) {
+        must(path in lines && lines[path] == cell[2], "`" path "` has " (path in lines ? lines[path] : "no") " lines, not " cell[2])
+        sum[to_skip + 0] += cell[2]
+    }
+    if (/^## /) to_skip = /skipped/
+    if (/^To believe: /) {
+        said = $0
+        gsub(/,/, "", said)
+        must(said ~ "^To believe: " sum[0] " lines " && said ~ "To skip: " sum[1] "\\.$", "the tables have " sum[0] " lines to believe and " sum[1] " to skip")
+    }
     k = split($0, piece, "`")
     for (i = 2; i < k; i += 2) {
         named[piece[i]]
@@ -29,6 +38,7 @@ open { block = block $0 "\n"; next }
 END {
     if (open) must(0, "the block that begins here is not closed")
     place = "all"
+    must(said, "no line that begins with 'To believe: '")
     for (f in text) {
         short = f
         gsub(/^crates\/|\.antt$/, "", short)
